@@ -1,0 +1,6 @@
+pub mod ListLemmas
+pub mod SetLemmas
+pub mod ReachLemmas
+pub mod ClosureLemmas
+pub mod PlacesLemmas
+pub mod NameLemmas

@@ -1,0 +1,9 @@
+pub mod Lists
+pub mod Roles
+pub mod Places
+pub mod Names
+pub mod Graph
+pub mod Reach
+pub mod Closures
+pub mod Ranges
+pub mod Refusals

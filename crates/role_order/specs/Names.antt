@@ -1,0 +1,35 @@
+-- Names, and the names of roles.
+use Rattle.std.specs.Prelude.{ℕ, ◌≡◌, ◌<◌, ◌≤◌, Bool, true, not, ◌==◌, ◌||◌, ◌&&◌, nat_le, List, [], ◌∷◌, length, codes, Option, Some, String, slice_get, position}
+use Rattle.std.specs.List.{list_all}
+use Rattle.std.specs.Str.{bytes_eq}
+use Rattle.std.specs.String.{string_bytes}
+use Rattle.std.specs.declared.alloc.Global.{Global}
+
+-- the texts of strings
+abbrev pub texts : List (String Global) → List (List ℕ)
+texts [] = []
+texts (s ∷ ss) = string_bytes s ∷ texts ss
+
+-- A-Z a-z 0-9 _ . -
+abbrev pub is_name_byte : ℕ → Bool
+is_name_byte b = (nat_le 65 b && nat_le b 90) || (nat_le 97 b && nat_le b 122) || (nat_le 48 b && nat_le b 57) || (b == 95) || (b == 46) || (b == 45)
+
+-- a text of 1 to 64 such bytes
+unfoldable pub is_name : List ℕ → Bool
+is_name text = nat_le 1 (length text) && nat_le (length text) 64 && list_all is_name_byte text
+
+-- a word of the conditions' own
+unfoldable pub is_reserved : List ℕ → Bool
+is_reserved text = bytes_eq text (codes "any") || bytes_eq text (codes "not") || bytes_eq text (codes "and") || bytes_eq text (codes "or")
+
+-- a name that is no such word
+unfoldable pub is_role_name : List ℕ → Bool
+is_role_name text = is_name text && not (is_reserved text)
+
+-- the place of the first name that equals the text
+abbrev pub place_of : List (List ℕ) → List ℕ → Option ℕ
+place_of names text = position (λ name. bytes_eq name text) names
+
+-- no two names are equal
+abbrev pub AreDifferent : List (List ℕ) → Type 0
+AreDifferent names = (i j : ℕ) (name : List ℕ) → slice_get names i ≡ Some name → slice_get names j ≡ Some name → i ≡ j

@@ -1,0 +1,61 @@
+-- Sets of roles, as strictly rising lists of role numbers.
+use Rattle.std.specs.Prelude.{ℕ, ◌≡◌, ◌<◌, Bool, true, false, not, ◌==◌, ◌||◌, nat_lt, if◌then◌else◌, List, [], ◌∷◌, filter}
+use Rattle.std.specs.List.{list_any, list_all}
+use Rattle.role_order.specs.Lists.{Each}
+
+-- whether the role is in the set
+abbrev pub has_role : List ℕ → ℕ → Bool
+has_role [] role = false
+has_role (x ∷ xs) role = (x == role) || has_role xs role
+
+-- the set with the role, at its place
+abbrev pub with_role : List ℕ → ℕ → List ℕ
+with_role [] role = role ∷ []
+with_role (x ∷ xs) role = if nat_lt role x then role ∷ x ∷ xs else if x == role then x ∷ xs else x ∷ with_role xs role
+
+abbrev pub without_role : List ℕ → ℕ → List ℕ
+without_role xs role = filter (λ x. not (x == role)) xs
+
+-- the roles of the first that the second lacks
+abbrev pub less_roles : List ℕ → List ℕ → List ℕ
+less_roles xs ys = filter (λ x. not (has_role ys x)) xs
+
+-- whether each role of the first is in the second
+abbrev pub is_within : List ℕ → List ℕ → Bool
+is_within xs ys = list_all (has_role ys) xs
+
+-- whether a role is in both
+abbrev pub have_common : List ℕ → List ℕ → Bool
+have_common xs ys = list_any (has_role ys) xs
+
+-- the roles of both
+abbrev pub join_roles : List ℕ → List ℕ → List ℕ
+join_roles [] ys = ys
+join_roles (x ∷ xs) ys = with_role (join_roles xs ys) x
+
+abbrev pub IsIn : List ℕ → ℕ → Type 0
+IsIn set role = has_role set role ≡ true
+
+abbrev pub IsOut : List ℕ → ℕ → Type 0
+IsOut set role = has_role set role ≡ false
+
+-- each role of the first is in the second
+abbrev pub IsWithin : List ℕ → List ℕ → Type 0
+IsWithin xs ys = (role : ℕ) → IsIn xs role → IsIn ys role
+
+-- no role of the first is in the second
+abbrev pub AreApart : List ℕ → List ℕ → Type 0
+AreApart xs ys = (role : ℕ) → IsIn xs role → IsIn ys role → ⊥
+
+-- a role is in both
+abbrev pub HaveCommon : List ℕ → List ℕ → Type 0
+HaveCommon xs ys = (role : ℕ) × IsIn xs role × IsIn ys role
+
+-- each role of the set is below the number
+abbrev pub AreBelow : ℕ → List ℕ → Type 0
+AreBelow count set = (role : ℕ) → IsIn set role → role < count
+
+-- the list rises strictly
+abbrev pub Rises : List ℕ → Type 0
+Rises [] = Unit {0}
+Rises (x ∷ xs) = Each (λ y. x < y) xs × Rises xs

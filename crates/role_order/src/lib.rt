@@ -1,0 +1,15 @@
+//! Role orders: roles by number, their edges, ranges and sets of roles.
+#![tactic(auto)]
+
+mod closure;
+mod names;
+mod order;
+mod range;
+mod role_set;
+
+pub use order::{Order, OrderError};
+pub use range::Range;
+pub use role_set::RoleSet;
+
+/// The greatest number of roles of an order.
+pub const MOST_ROLES: usize = 250;

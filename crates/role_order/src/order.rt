@@ -1,0 +1,282 @@
+//! Role orders.
+
+ghost use Rattle.std.specs.Prelude.{ℕ, ◌≡◌, ◌^◌, ◌<◌, ◌≤◌, [], List, ◌↔◌, IsTrue, length, vec_len, IfOk, IfErr, IfSome, Some, None, slice_get, map};
+ghost use Rattle.role_order.specs.Names.{texts, place_of};
+ghost use Rattle.role_order.specs.Graph.{Leads, turned, AreEdges};
+ghost use Rattle.role_order.specs.Refusals.{AreNames, IsOrder, IsRefused};
+ghost use Rattle.role_order.specs.Reach.{seniors_of, juniors_of};
+ghost use Rattle.role_order.specs.Ranges.{IsInRange};
+ghost use Rattle.role_order.specs.Roles.{IsIn, Rises};
+
+use crate::MOST_ROLES;
+use crate::closure::{Closure, close, first_outside};
+use crate::names::{first_bad, first_repeated, place_in};
+use crate::range::Range;
+use crate::role_set::RoleSet;
+use std::alloc::{AllocError, AllocFailed, Global};
+use std::marker::Model;
+
+/// Why names and edges are no role order: the first of these that fits. Places count from 0.
+#[derive(Clone, Copy, Debug, PartialEq, Eq)]
+pub enum OrderError {
+    /// The list of names is empty.
+    NoRoles,
+    /// There are more than `MOST_ROLES` names.
+    TooManyRoles { count: u32 },
+    /// The first name that is no role name.
+    BadName { place: u32 },
+    /// The first name that equals an earlier one, with the first such.
+    SameName { first: u32, second: u32 },
+    /// The first edge with an end that is no role.
+    EdgeOutOfRange { place: u32 },
+    /// The first edge whose junior is already above its senior by the edges before it.
+    Cycle { place: u32 },
+    /// Want of memory.
+    Memory,
+}
+
+impl From<AllocError> for OrderError {
+    ghost use Rattle.std.specs.Prelude.{◌≡◌};
+    ghost use Rattle.role_order.specs.declared.order.OrderError.TheVariants as refusals;
+
+    ghost from_gives = { λ _ e. e ≡ refusals.Memory };
+
+    fn from(_e: AllocError) -> OrderError {
+        OrderError::Memory
+    }
+}
+
+/// Roles by number, and which of them stand above which (URA97).
+#[derive(Drop)]
+pub struct Order {
+    names: Vec<String>,
+    edges: Vec<(u16, u16)>,
+    above: Vec<RoleSet>,
+}
+
+impl Model for Order {
+    ghost use Rattle.role_order.specs.Graph.{Graph};
+    ghost use Rattle.role_order.specs.Names.{texts};
+    ghost use Rattle.role_order.specs.Refusals.{IsOrder};
+    ghost use Rattle.role_order.specs.Closures.{AreAbove};
+    ghost use Rattle.std.specs.Prelude.{length};
+
+    ghost Value = { Graph };
+
+    ghost view = { λ o. record { names = texts o.names.items; edges = o.edges.items } };
+
+    ghost invariant = { λ o. IsOrder (texts o.names.items) o.edges.items
+        × AreAbove (length (texts o.names.items)) o.edges.items o.above.items };
+}
+
+#[tactic(auto, using(crate::proofs::NameLemmas::length_texts))]
+fn check_names(names: &[String]) -> Result<(), OrderError>
+    requires { length names.now < 2 ^ 32 }
+    ensures ok { IfOk result (λ _. AreNames (texts names.now)) }
+    ensures err { IfErr result (λ e. (edges : List (ℕ × ℕ)) → IsRefused (texts names.now) edges e) }
+{
+    if names.is_empty() {
+        return Err(OrderError::NoRoles);
+    }
+    if names.len() > MOST_ROLES {
+        return Err(OrderError::TooManyRoles {
+            count: names.len() as u32,
+        });
+    }
+    if let Some(place) = first_bad(names) {
+        return Err(OrderError::BadName {
+            place: place as u32,
+        });
+    }
+    if let Some((first, second)) = first_repeated(names) {
+        return Err(OrderError::SameName {
+            first: first as u32,
+            second: second as u32,
+        });
+    }
+    Ok(())
+}
+
+/// How many names there are.
+#[tactic(auto, using(crate::proofs::NameLemmas::length_texts))]
+fn count_of(names: &[String]) -> u16
+    requires { length (texts names.now) ≤ MOST_ROLES }
+    ensures { result ≡ length (texts names.now) }
+{
+    names.len() as u16
+}
+
+/// The same names, in strings of their own.
+fn copy_names(alloc: Global, names: &[String]) -> Result<Vec<String>, AllocError>
+    ensures { IfOk result (λ copy. texts copy.items ≡ texts names.now) }
+{
+    let mut copy = Vec::new(alloc);
+    for name in names {
+        copy.push(String::from_str(alloc, name.as_str())?)?;
+    }
+    Ok(copy)
+}
+
+/// The edges, each turned round.
+fn turn(alloc: Global, edges: &[(u16, u16)]) -> Result<Vec<(u16, u16)>, AllocError>
+    ensures { IfOk result (λ back. back.items ≡ map turned edges.now) }
+{
+    let mut back = Vec::new(alloc);
+    for &(senior, junior) in edges {
+        back.push((junior, senior))?;
+    }
+    Ok(back)
+}
+
+/// The order of names and edges that are known to be one.
+fn made_of(alloc: Global, names: Vec<String>, edges: Vec<(u16, u16)>) -> Result<Order, AllocError>
+    requires { IsOrder (texts names.items) edges.items }
+    ensures names { IfOk result (λ o. o.names ≡ texts names.items) }
+    ensures edges { IfOk result (λ o. o.edges ≡ edges.items) }
+{
+    match close(alloc, count_of(&names), &edges)? {
+        Closure::Table(above) => Ok(Order {
+            names,
+            edges,
+            above,
+        }),
+        Closure::Cycle(_) => unreachable!(),
+    }
+}
+
+impl Order {
+    /// The order of these names and edges, an edge being a pair (senior, junior).
+    pub fn new(
+        alloc: Global,
+        names: Vec<String>,
+        edges: Vec<(u16, u16)>,
+    ) -> Result<Order, OrderError>
+        requires names { vec_len names < 2 ^ 32 }
+        requires edges { vec_len edges < 2 ^ 32 }
+        ensures names { IfOk result (λ o. o.names ≡ texts names.items) }
+        ensures edges { IfOk result (λ o. o.edges ≡ edges.items) }
+        ensures ok { IfOk result (λ _. IsOrder (texts names.items) edges.items) }
+        ensures err { IfErr result (IsRefused (texts names.items) edges.items) }
+    {
+        if let Err(e) = check_names(&names) {
+            return Err(e);
+        }
+        if let Some(place) = first_outside(count_of(&names), &edges) {
+            return Err(OrderError::EdgeOutOfRange {
+                place: place as u32,
+            });
+        }
+        match close(alloc, count_of(&names), &edges)? {
+            Closure::Table(above) => Ok(Order {
+                names,
+                edges,
+                above,
+            }),
+            Closure::Cycle(place) => Err(OrderError::Cycle {
+                place: place as u32,
+            }),
+        }
+    }
+
+    /// How many roles there are; they are the numbers below.
+    pub fn count(&self) -> u16
+        ensures count { result ≡ length self.now.names }
+        ensures order { IsOrder self.now.names self.now.edges }
+    {
+        count_of(&self.names)
+    }
+
+    /// The edges as they were handed in.
+    pub fn edges(&self) -> &[(u16, u16)]
+        ensures { result.now ≡ self.now.edges }
+    {
+        &self.edges
+    }
+
+    /// The name of the role.
+    pub fn name(&self, role: u16) -> &str
+        requires { role < length self.now.names }
+        ensures { Some result.now ≡ slice_get self.now.names role }
+    {
+        self.names[role as usize].as_str()
+    }
+
+    /// The role of the name, and none exactly where no name equals the text.
+    pub fn role_named(&self, text: &str) -> Option<u16>
+        ensures role { IfSome result (λ role. role < length self.now.names) }
+        ensures place { result ≡ place_of self.now.names text.now }
+    {
+        match place_in(&self.names, text) {
+            Some(at) => Some(at as u16),
+            None => None,
+        }
+    }
+
+    /// The role and all roles above it, as they are kept.
+    fn above(&self, role: u16) -> &RoleSet
+        requires { role < length self.now.names }
+        ensures order { IsOrder self.now.names self.now.edges }
+        ensures rises { Rises result.now }
+        ensures each { (senior : ℕ) → IsIn result.now senior ↔ Leads self.now.edges senior role }
+    {
+        &self.above[role as usize]
+    }
+
+    /// Whether a list of edges leads from `x` down to `y`; each role leads to itself.
+    pub fn geq(&self, x: u16, y: u16) -> bool
+        requires x { x < length self.now.names }
+        requires y { y < length self.now.names }
+        ensures { IsTrue result ↔ Leads self.now.edges x y }
+    {
+        self.above(y).has(x)
+    }
+
+    /// The role and all roles above it.
+    pub fn seniors(&self, role: u16) -> RoleSet
+        requires { role < length self.now.names }
+        ensures seniors { result ≡ seniors_of self.now role }
+        ensures each { (senior : ℕ) → IsIn result senior ↔ Leads self.now.edges senior role }
+    {
+        *self.above(role)
+    }
+
+    /// The role and all roles below it.
+    pub fn juniors(&self, role: u16) -> RoleSet
+        requires { role < length self.now.names }
+        ensures juniors { result ≡ juniors_of self.now role }
+        ensures each { (junior : ℕ) → IsIn result junior ↔ Leads self.now.edges role junior }
+    {
+        let mut juniors = RoleSet::empty();
+        for junior in 0..self.count() {
+            if self.geq(role, junior) {
+                juniors = juniors.with(junior);
+            }
+        }
+        juniors
+    }
+
+    /// Whether the role stands between the range's ends and is no end that is open.
+    pub fn in_range(&self, range: &Range, role: u16) -> bool
+        requires low { range.now.low < length self.now.names }
+        requires high { range.now.high < length self.now.names }
+        requires role { role < length self.now.names }
+        ensures { IsTrue result ↔ IsInRange self.now range.now role }
+    {
+        self.geq(role, range.low)
+            && self.geq(range.high, role)
+            && !(range.low_open && role == range.low)
+            && !(range.high_open && role == range.high)
+    }
+
+    /// The dual order: the same names, and each edge turned round.
+    pub fn reversed(&self, alloc: Global) -> Result<Order, AllocError>
+        ensures names { IfOk result (λ o. o.names ≡ self.now.names) }
+        ensures edges { IfOk result (λ o. o.edges ≡ map turned self.now.edges) }
+        ensures geq { IfOk result (λ o. (x y : ℕ) → Leads o.edges x y ↔ Leads self.now.edges y x) }
+    {
+        let names = copy_names(alloc, &self.names)?;
+        let edges = turn(alloc, &self.edges)?;
+        let order = made_of(alloc, names, edges)?;
+        Ok(order)
+    }
+}
