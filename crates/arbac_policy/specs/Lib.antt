@@ -1,0 +1,9 @@
+pub mod Truth
+pub mod Rules
+pub mod Policies
+pub mod Holders
+pub mod Steps
+pub mod Permissions
+pub mod Embeds
+pub mod Goals
+pub mod Verdicts

@@ -1,0 +1,14 @@
+-- What a kept policy is seen as.
+use Rattle.std.specs.Prelude.{List}
+use Rattle.arbac_policy.specs.declared.policy.Policy.TheInside.{Inside}
+use Rattle.arbac_policy.specs.Rules.{Rules}
+
+abbrev pub rules_of : Inside → Rules
+rules_of p = record {
+  order = p.order;
+  assign = p.assign.items;
+  revoke = p.revoke.items;
+  assignp = p.assignp.items;
+  revokep = p.revokep.items;
+  exclusive = p.exclusive.items;
+}

@@ -1,0 +1,41 @@
+-- A policy: a role order, the rules of URA97 and PRA97, and the exclusive pairs.
+use Rattle.std.specs.Prelude.{ℕ, ◌<◌, List, length}
+use Rattle.role_order.specs.Lists.{Each}
+use Rattle.role_order.specs.Graph.{Graph}
+use Rattle.role_order.specs.declared.range.Range.{Range}
+use Rattle.arbac_policy.specs.declared.rule.CanAssign.{CanAssign}
+use Rattle.arbac_policy.specs.declared.rule.CanRevoke.{CanRevoke}
+use Rattle.arbac_policy.specs.Truth.{term_of, IsKnown}
+
+pub record Rules : Type 0 where
+  pub order : Graph
+  pub assign : List CanAssign
+  pub revoke : List CanRevoke
+  pub assignp : List CanAssign
+  pub revokep : List CanRevoke
+  pub exclusive : List (ℕ × ℕ)
+
+-- both ends are roles
+abbrev pub IsKnownRange : ℕ → Range → Type 0
+IsKnownRange count range = (range.low < count) × (range.high < count)
+
+-- each number in the rule is a role
+pub record IsKnownAssign (count : ℕ) (rule : CanAssign) : Type 0 where
+  pub admin : rule.admin < count
+  pub cond : IsKnown count (term_of rule.cond)
+  pub range : IsKnownRange count rule.range
+
+pub record IsKnownRevoke (count : ℕ) (rule : CanRevoke) : Type 0 where
+  pub admin : rule.admin < count
+  pub range : IsKnownRange count rule.range
+
+abbrev pub IsKnownPair : ℕ → ℕ × ℕ → Type 0
+IsKnownPair count pair = (pair.0 < count) × (pair.1 < count)
+
+-- each number in a rule or a pair is a role
+pub record IsPolicy (rules : Rules) : Type 0 where
+  pub assign : Each (IsKnownAssign (length rules.order.names)) rules.assign
+  pub revoke : Each (IsKnownRevoke (length rules.order.names)) rules.revoke
+  pub assignp : Each (IsKnownAssign (length rules.order.names)) rules.assignp
+  pub revokep : Each (IsKnownRevoke (length rules.order.names)) rules.revokep
+  pub exclusive : Each (IsKnownPair (length rules.order.names)) rules.exclusive

@@ -1,0 +1,18 @@
+//! Policies of ARBAC97: conditions, rules, and the meaning of acts on users and permissions.
+#![tactic(auto)]
+
+mod act;
+mod cond;
+mod policy;
+mod profile;
+mod rule;
+mod truth;
+mod verdict;
+
+pub use act::{Act, ActKind};
+pub use cond::Cond;
+pub use policy::Policy;
+pub use profile::Profile;
+pub use rule::{CanAssign, CanRevoke};
+pub use truth::{holds, holds_perm, is_member};
+pub use verdict::{Part, Side};
