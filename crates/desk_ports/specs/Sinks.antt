@@ -19,3 +19,8 @@ AppendsFront old new bytes = (count : ℕ) × Appends old new (take count bytes)
 pub record SinkState : Type 0 where
   pub taken : List ℕ
   pub plan : Plan
+
+-- a sink over a writer: the bytes that the writer holds, where it tells them, and how often it failed
+pub record OutState : Type 0 where
+  pub written : Option (List ℕ)
+  pub faults : ℕ

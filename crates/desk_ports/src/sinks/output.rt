@@ -1,22 +1,33 @@
 //! A sink over a writer of the system, as standard output.
-ghost use Rattle.std.specs.Prelude.{ℕ, ◌≡◌, List, take, Option, None, IsTrue, MatchBool};
+ghost use Rattle.std.specs.Prelude.{ℕ, ◌≡◌, List, take, Option, None, OnOk, OnErr, IsErrOf, MatchBool};
 ghost use Rattle.std.specs.Io.KnownBytes.{Appends};
+ghost use Rattle.desk_ports.specs.Faults.{HasCause};
 ghost use Rattle.desk_ports.specs.Sinks.{AppendsFront};
 
 use super::{Sink, SinkError};
 use std::io::Write;
+use std::marker::Model;
 
-/// Any writer. It tells nothing of what the writer took.
+/// Any writer. As a sink it tells nothing of what the writer took.
 #[derive(Drop)]
 pub struct OutSink<W: Write + Drop> {
     writer: W,
     faults: u64,
 }
 
+impl<W: Write + Drop> Model for OutSink<W> {
+    ghost use Rattle.desk_ports.specs.Sinks.{OutState};
+
+    ghost Value = { OutState };
+
+    ghost view = { λ s. record { written = W.contents s.writer; faults = s.faults } };
+}
+
 impl<W: Write + Drop> OutSink<W> {
     /// A sink that hasn't failed yet.
     pub fn new(writer: W) -> OutSink<W>
-        ensures { ⟦<OutSink<W> as Sink>⟧.faults result ≡ 0 }
+        ensures written { result.written ≡ W.contents writer }
+        ensures faults { result.faults ≡ 0 }
     {
         OutSink { writer, faults: 0 }
     }
@@ -43,7 +54,14 @@ impl<W: Write + Drop> Sink for OutSink<W> {
     ghost faults = { λ s. s.faults };
 
     /// Each error of the writer is a fault, and so is a write that takes nothing.
-    fn put(&mut self, bytes: &[u8]) -> Result<(), SinkError> {
+    fn put(&mut self, bytes: &[u8]) -> Result<(), SinkError>
+        ensures cause { HasCause self.old.faults self.new.faults
+            (IsErrOf result SinkError.Failed) }
+
+        // Where the writer tells what it holds, it took the bytes, or after an error a prefix.
+        ensures written { OnOk result (Appends self.old.written self.new.written bytes.now) }
+        ensures front { OnErr result (AppendsFront self.old.written self.new.written bytes.now) }
+    {
         if write_whole(&mut self.writer, bytes) {
             return Ok(());
         }
