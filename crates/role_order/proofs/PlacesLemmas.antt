@@ -4,7 +4,8 @@ use Rattle.std.specs.Prelude.{filter}
 use Rattle.std.specs.List.{list_any, list_all}
 use Rattle.std.proofs.lemmas.Bool.{ne_eqb, eq-eqb}
 use Rattle.std.proofs.lemmas.Bool.Decides.{nat_tests}
-use Rattle.role_order.specs.Roles.{has_role, with_role, without_role, less_roles, is_within, have_common, join_roles}
+use Rattle.role_order.specs.Roles.{has_role, with_role, without_role, less_roles, is_within, have_common, join_roles, Rises}
+use Rattle.role_order.specs.Lists.{Each}
 use Rattle.role_order.specs.Places.{places, row, has_role-places_below}
 
 pub has_role-places : (at : ℕ) (bs : List Bool) (k : ℕ) → has_role (places at bs) (at + k) ≡ get_or bs k false
@@ -206,3 +207,16 @@ pub places-joined : (as' bs cs : List Bool) → length as' ≡ length bs → len
 places-joined as' bs cs h e each =
     let same : cs ≡ either_row as' bs = same_row cs (either_row as' bs) (e ∙ sym (length-either_row as' bs h)) (λ k l. each k l ∙ sym (get_or-either_row as' bs k h)) in
     rw same (places-either_row 0 as' bs h)
+
+places_from : (low at : ℕ) (bs : List Bool) → low < at → Each (λ y. low < y) (places at bs)
+unfolding places
+places_from low at [] l = tt
+places_from low at (false ∷ bs) l = places_from low (at + 1) bs (omega arith)
+places_from low at (true ∷ bs) l = (l, places_from low (at + 1) bs (omega arith))
+
+-- the places rise
+pub rises-places : (at : ℕ) (bs : List Bool) → Rises (places at bs)
+unfolding places
+rises-places at [] = tt
+rises-places at (false ∷ bs) = rises-places (at + 1) bs
+rises-places at (true ∷ bs) = (places_from at (at + 1) bs (omega arith), rises-places (at + 1) bs)
