@@ -1,0 +1,16 @@
+//! The text of conditions, read and written.
+#![tactic(auto)]
+
+mod cond_error;
+mod level;
+mod word;
+
+pub use cond_error::CondError;
+pub use level::Level;
+pub use word::{Placed, Word};
+
+/// The greatest number of terms of a condition that is read.
+pub const MOST_TERMS: usize = 64;
+
+/// The greatest number of parentheses that are open at once in a text that is read.
+pub const MOST_OPEN: usize = 64;
