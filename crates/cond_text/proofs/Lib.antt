@@ -1,0 +1,6 @@
+pub mod CompleteLemmas
+pub mod SoundLemmas
+pub mod PrefixLemmas
+pub mod JudgeLemmas
+pub mod TermLemmas
+pub mod FewestLemmas
