@@ -53,7 +53,7 @@ true_begins : (rest : List Placed) → BeginsWithName rest → begins_with_name 
 true_begins [] h = absurd h
 true_begins (x ∷ xs) h = ap is_name h.1
 
--- what the machine knows behind these plain
+-- what the machine knows behind these words
 record Behind (before : List Word) (s : State) (terms : ℕ) : Type 0 where
   gone : go start before ≡ Some s
   counted : terms ≡ terms_in before
@@ -154,11 +154,12 @@ ending_err : (size : ℕ) (o : Option Term) (f : CondError) → ending size o �
 ending_err size None f h = (refl, (let r : Unexpected size ≡ f = cc in sym r))
 ending_err size (Some u) f h = absurd (cc)
 
-terms_more : (before : List Word) (w : Word) → terms_in (before ++ (w ∷ [])) ≡ terms_in before + weight w
+-- counts with one word more
+pub terms_more : (before : List Word) (w : Word) → terms_in (before ++ (w ∷ [])) ≡ terms_in before + weight w
 terms_more [] w = omega arith
 terms_more (v ∷ before) w = omega (arith, terms_more before w)
 
-open_more : (n : ℕ) (before : List Word) (w : Word) → open_after n (before ++ (w ∷ [])) ≡ open_behind (open_after n before) w
+pub open_more : (n : ℕ) (before : List Word) (w : Word) → open_after n (before ++ (w ∷ [])) ≡ open_behind (open_after n before) w
 open_more n [] w = refl
 open_more n (v ∷ before) w = open_more (open_behind n v) before w
 
@@ -175,7 +176,7 @@ fine count before s next terms x rest b e l =
     let p = passes count before terms (open_in s) x.place rest x.word b.counted b.nested l in
     record { expected = can_begin next (before ++ (x.word ∷ [])) (go_one_more s before x.word b.gone ∙ e); shallow = p.shallow; known = p.known }
 
--- a term told is what the plain stand for, and no word is at fault
+-- a term told is what the words stand for, and no word is at fault
 judge_ok : (count size : ℕ) (ws : List Placed) (before : List Word) (s : State) (terms : ℕ) (t : Term) → Behind before s terms → judge count size s terms ws ≡ Ok t
     → AreFine count before ws × (option_and_then finish (go s (plain ws)) ≡ Some t)
 judge_ok count size [] before s terms t b h = (tt, ending_ok size (finish s) t h)

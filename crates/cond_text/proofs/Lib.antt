@@ -4,3 +4,7 @@ pub mod PrefixLemmas
 pub mod JudgeLemmas
 pub mod TermLemmas
 pub mod FewestLemmas
+pub mod LimitLemmas
+pub mod NameLemmas
+pub mod TextLemmas
+pub mod ParenthesisLemmas
