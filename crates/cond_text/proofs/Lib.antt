@@ -8,3 +8,7 @@ pub mod LimitLemmas
 pub mod NameLemmas
 pub mod TextLemmas
 pub mod ParenthesisLemmas
+pub mod WrittenLemmas
+pub mod WordLemmas
+pub mod ReadLemmas
+pub mod PrintLemmas

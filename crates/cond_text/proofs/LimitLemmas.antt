@@ -68,7 +68,7 @@ known_spell count (enclosed p) rest h k = ((λ e. e), known_spell count p (Close
 known_spell count (an_and p q) rest h k = known_spell count p (And ∷ spell q rest) h.0 ((λ e. e), known_spell count q rest h.1 k)
 known_spell count (an_or p q) rest h k = known_spell count p (Or ∷ spell q rest) h.0 ((λ e. e), known_spell count q rest h.1 k)
 
-terms_spell : (p : Phrase) (rest : List Word) → terms_in (spell p rest) ≡ size (value p) + terms_in rest
+pub terms_spell : (p : Phrase) (rest : List Word) → terms_in (spell p rest) ≡ size (value p) + terms_in rest
 terms_spell an_any rest = omega arith
 terms_spell (a_name role) rest = omega arith
 terms_spell (a_not role) rest = omega arith
@@ -101,3 +101,48 @@ printed_fine count ws t e st few roles =
     (omega (arith, ap terms_in e, terms_spell (phrase_at Condition t) [], ap size v))
     (subst Q (sym e) (shallow_spell (phrase_at Condition t) 0 [] (omega (arith, depth_size Condition t)) tt))
     (subst R (sym e) (known_spell count (phrase_at Condition t) [] (subst P (sym v) roles) tt))
+
+-- no more terms than the limit are without a fault
+few_words : (count : ℕ) (before : List Word) (ws : List Placed) → terms_in before ≤ MOST_TERMS → AreFine count before ws → terms_in before + terms_in (plain ws) ≤ MOST_TERMS
+few_words count before [] h fine = omega arith
+few_words count before (x ∷ xs) h fine =
+    let here : terms_in (before ++ (x.word ∷ [])) ≤ MOST_TERMS = rw (terms_more before x.word) (room before x.word xs h fine.0.shallow) in
+    let rest = few_words count (before ++ (x.word ∷ [])) xs here fine.1 in
+    omega (arith, rest, terms_more before x.word)
+  where
+    below : (n : ℕ) → n ≤ MOST_TERMS → (MOST_TERMS ≤ n → ⊥) → n + 1 ≤ MOST_TERMS
+    below n l h = grind arith
+
+    room : (before : List Word) (w : Word) (rest : List Placed) → terms_in before ≤ MOST_TERMS → (IsTooDeep before w rest → ⊥) → terms_in before + weight w ≤ MOST_TERMS
+    room before Any rest l h = below (terms_in before) l h
+    room before (Name role) rest l h = below (terms_in before) l h
+    room before Not rest l h = omega arith
+    room before And rest l h = omega arith
+    room before Or rest l h = omega arith
+    room before Open rest l h = omega arith
+    room before Close rest l h = omega arith
+    room before Stray rest l h = omega arith
+
+known_words : (count : ℕ) (before : List Word) (ws : List Placed) → AreFine count before ws → AreKnown count (plain ws)
+known_words count before [] fine = tt
+known_words count before (x ∷ xs) fine = (fine.0.known, known_words count (before ++ (x.word ∷ [])) xs fine.1)
+
+below_count : (count role : ℕ) → (count ≤ role → ⊥) → role < count
+below_count count role h = grind arith
+
+spelled_known : (count : ℕ) (p : Phrase) (rest : List Word) → AreKnown count (spell p rest) → IsKnown count (value p) × AreKnown count rest
+spelled_known count an_any rest k = (tt, k.1)
+spelled_known count (a_name role) rest k = (below_count count role k.0, k.1)
+spelled_known count (a_not role) rest k = (below_count count role k.1.0, k.1.1)
+spelled_known count (enclosed p) rest k = let r = spelled_known count p (Close ∷ rest) k.1 in (r.0, r.1.1)
+spelled_known count (an_and p q) rest k = let l = spelled_known count p (And ∷ spell q rest) k in let r = spelled_known count q rest l.1.1 in ((l.0, r.0), r.1)
+spelled_known count (an_or p q) rest k = let l = spelled_known count p (Or ∷ spell q rest) k in let r = spelled_known count q rest l.1.1 in ((l.0, r.0), r.1)
+
+-- what words without a fault stand for has few terms, each of a role
+pub fine_term : (count : ℕ) (ws : List Placed) (t : Term) → Stands (plain ws) t → AreFine count [] ws → IsKnown count t × (size t ≤ MOST_TERMS)
+fine_term count ws t st fine =
+    let P : List Word → Type 0 = λ w. AreKnown count w in
+    let Q : Term → Type 0 = λ u. IsKnown count u in
+    let known = spelled_known count st.phrase [] (subst P (sym st.spelled) (known_words count [] ws fine)) in
+    let few = few_words count [] ws (omega arith) fine in
+    (subst Q st.valued known.0, omega (arith, few, ap terms_in st.spelled, terms_spell st.phrase [], ap size st.valued))

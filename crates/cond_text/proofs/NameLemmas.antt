@@ -60,7 +60,7 @@ free_name : (name : List ℕ) → is_role_name name ≡ true → IsFree name
 unfolding is_role_name is_name is_reserved
 free_name name h =
     let parts = both_true (nat_le 1 (length name) && nat_le (length name) 64 && list_all is_name_byte name)
-        (not (bytes_eq name (codes "any") || bytes_eq name (codes "not") || bytes_eq name (codes "and") || bytes_eq name (codes "or"))) h in
+    (not (bytes_eq name (codes "any") || bytes_eq name (codes "not") || bytes_eq name (codes "and") || bytes_eq name (codes "or"))) h in
     let named = both_true (nat_le 1 (length name) && nat_le (length name) 64) (list_all is_name_byte name) parts.0 in
     let long = both_true (nat_le 1 (length name)) (nat_le (length name) 64) named.0 in
     let three = both_false (bytes_eq name (codes "any") || bytes_eq name (codes "not") || bytes_eq name (codes "and")) (bytes_eq name (codes "or")) (not_true _ parts.1) in

@@ -5,3 +5,4 @@ pub mod Reading
 pub mod Printing
 pub mod Machine
 pub mod Judge
+pub mod Views

@@ -3,11 +3,15 @@
 
 mod cond_error;
 mod level;
+mod parsing;
+mod printing;
+mod reader;
 mod word;
+mod words;
 
 pub use cond_error::CondError;
-pub use level::Level;
-pub use word::{Placed, Word};
+pub use parsing::parse_cond;
+pub use printing::print_cond;
 
 /// The greatest number of terms of a condition that is read.
 pub const MOST_TERMS: usize = 64;
