@@ -5,7 +5,7 @@ ghost use Rattle.cond_text.specs.Grammar.{takes_and as free_and, takes_or as fre
 
 /// What is wanted at a place of a condition. An operand serves everywhere, a conjunction
 /// wherever a condition does.
-#[derive(Clone, Copy, Debug, PartialEq, Eq)]
+#[derive(Clone, Copy)]
 pub enum Level {
     /// `any`, a name, `not` and a name, or a condition in parentheses.
     Operand,

@@ -6,6 +6,8 @@ mod level;
 mod parsing;
 mod printing;
 mod reader;
+#[cfg(test)]
+mod tests;
 mod word;
 mod words;
 

@@ -1,7 +1,7 @@
 //! Words of a condition's text.
 
 /// A word of a condition's text.
-#[derive(Clone, Copy, Debug, PartialEq, Eq)]
+#[derive(Clone, Copy)]
 pub enum Word {
     Any,
     /// The role of a name, or the number of roles for a name that is no role's.
@@ -16,7 +16,7 @@ pub enum Word {
 }
 
 /// A word and the place of its first byte.
-#[derive(Clone, Copy, Debug, PartialEq, Eq)]
+#[derive(Clone, Copy)]
 pub struct Placed {
     pub place: u32,
     pub word: Word,
