@@ -50,6 +50,20 @@ pub fn place_in(names: &[String], text: &str) -> Option<usize>
     position_in(names, text)
 }
 
+fn position_of(names: &[String], bytes: &[u8]) -> Option<usize>
+    ensures { result ≡ position (λ name. bytes_eq (string_bytes name) bytes.now) names.now }
+{
+    names.iter().position(|name| name.as_bytes() == bytes)
+}
+
+/// The place of the first name that has these bytes.
+pub fn place_of_bytes(names: &[String], bytes: &[u8]) -> Option<usize>
+    ensures within { IfSome result (λ at. at < length names.now) }
+    ensures place { result ≡ place_of (texts names.now) bytes.now }
+{
+    position_of(names, bytes)
+}
+
 /// The place of the first text that is no role name.
 pub fn first_bad(names: &[String]) -> Option<usize>
     ensures within { IfSome result (λ at. at < length names.now) }

@@ -10,7 +10,7 @@ ghost use Rattle.role_order.specs.Roles.{IsIn, Rises};
 
 use crate::MOST_ROLES;
 use crate::closure::{Closure, close, first_outside};
-use crate::names::{first_bad, first_repeated, place_in};
+use crate::names::{first_bad, first_repeated, place_in, place_of_bytes};
 use crate::range::Range;
 use crate::role_set::RoleSet;
 use std::alloc::{AllocError, AllocFailed, Global};
@@ -207,6 +207,17 @@ impl Order {
         ensures place { result ≡ place_of self.now.names text.now }
     {
         match place_in(&self.names, text) {
+            Some(at) => Some(at as u16),
+            None => None,
+        }
+    }
+
+    /// The role of the name that has these bytes, and none exactly where no name has them.
+    pub fn role_of_bytes(&self, bytes: &[u8]) -> Option<u16>
+        ensures role { IfSome result (λ role. role < length self.now.names) }
+        ensures place { result ≡ place_of self.now.names bytes.now }
+    {
+        match place_of_bytes(&self.names, bytes) {
             Some(at) => Some(at as u16),
             None => None,
         }
