@@ -29,7 +29,11 @@ is_within xs ys = list_all (has_role ys) xs
 abbrev pub have_common : List ℕ → List ℕ → Bool
 have_common xs ys = list_any (has_role ys) xs
 
--- the roles of both
+-- the roles of the first that are in the second
+abbrev pub common_roles : List ℕ → List ℕ → List ℕ
+common_roles xs ys = filter (has_role ys) xs
+
+-- the roles of one or the other
 abbrev pub join_roles : List ℕ → List ℕ → List ℕ
 join_roles [] ys = ys
 join_roles (x ∷ xs) ys = with_role (join_roles xs ys) x
