@@ -1,0 +1,6 @@
+//! Matching with capacities: the least full matching, or items whose neighbours hold too few.
+#![tactic(auto)]
+
+mod laws;
+
+pub use laws::{deficient_law, least_law};
