@@ -2,5 +2,6 @@
 #![tactic(auto)]
 
 mod laws;
+mod rows;
 
 pub use laws::{deficient_law, least_law};
