@@ -1,3 +1,5 @@
 pub mod CountLemmas
 pub mod LawLemmas
 pub mod RowLemmas
+pub mod HoldingLemmas
+pub mod ChainLemmas

@@ -1,7 +1,9 @@
 //! Matching with capacities: the least full matching, or items whose neighbours hold too few.
 #![tactic(auto)]
 
+mod allotment;
 mod laws;
 mod rows;
+mod users;
 
 pub use laws::{deficient_law, least_law};
