@@ -3,3 +3,5 @@ pub mod LawLemmas
 pub mod RowLemmas
 pub mod HoldingLemmas
 pub mod ChainLemmas
+pub mod SearchLemmas
+pub mod WalkLemmas

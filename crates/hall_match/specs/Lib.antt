@@ -2,3 +2,4 @@ pub mod Chains
 pub mod Holding
 pub mod Matchings
 pub mod Rows
+pub mod Search

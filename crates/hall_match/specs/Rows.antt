@@ -1,5 +1,5 @@
 -- The neighbours of each item, item by item.
-use Rattle.std.specs.Prelude.{ℕ, ◌≡◌, ◌↔◌, List, [], length, map, slice_index_or, Contains, Vec}
+use Rattle.std.specs.Prelude.{ℕ, ◌<◌, ◌↔◌, List, [], map, slice_index_or, Contains, Vec}
 use Rattle.std.specs.List.Sorted.{IsNonDecreasing}
 use Rattle.std.specs.declared.alloc.Global.{Global}
 
@@ -22,3 +22,7 @@ AreRising rows = (item : ℕ) → IsNonDecreasing (row_at rows item)
 -- the rows have the same places
 abbrev pub HaveSame : List (List ℕ) → List (List ℕ) → Type 0
 HaveSame old new = (item place : ℕ) → Contains (row_at new item) place ↔ Contains (row_at old item) place
+
+-- the places of each row are below the number
+abbrev pub AreInside : List (List ℕ) → ℕ → Type 0
+AreInside rows count = (item place : ℕ) → Contains (row_at rows item) place → place < count

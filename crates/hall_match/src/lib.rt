@@ -4,6 +4,7 @@
 mod allotment;
 mod laws;
 mod rows;
+mod search;
 mod users;
 
 pub use laws::{deficient_law, least_law};

@@ -1,7 +1,7 @@
 //! The neighbours of each item.
 
 ghost use Rattle.std.specs.Prelude.{ℕ, ◌≡◌, ◌<◌, ◌↔◌, List, [], length, All, Contains, IfOk};
-ghost use Rattle.hall_match.specs.Rows.{lists, HaveEdges, HaveSame, AreRising};
+ghost use Rattle.hall_match.specs.Rows.{lists, row_at, HaveEdges, HaveSame, AreRising};
 
 use std::alloc::{AllocError, Global};
 
@@ -49,4 +49,12 @@ fn sorted_rows(mut rows: Vec<Vec<u32>>) -> Result<Vec<Vec<u32>>, AllocError>
         rows[i].sort()?;
     }
     Ok(rows)
+}
+
+/// The row of the item.
+pub fn row_of(rows: &[Vec<u32>], item: u32) -> &[u32]
+    requires { item < length rows.now }
+    ensures { result.now ≡ row_at (lists rows.now) item }
+{
+    &rows[item as usize]
 }
