@@ -99,3 +99,18 @@ pub record IsReady (s : Scene) (used : List ℕ) (ends links : List (Option ℕ)
   pub places : length ends ≡ length s.capacities
   pub items : length links ≡ length s.given
   pub chains : AreChains s.given (s.item + 1) (length s.given) ends links
+
+-- the place where the search began
+abbrev pub BeginsAt : List Reached → ℕ → Type 0
+BeginsAt reached place = slice_get reached 0 ≡ Some (record { place = place; by = None })
+
+-- a way from the place to room
+pub record IsFoundFrom (s : Scene) (reached : List Reached) (place : ℕ) : Type 0 where
+  pub found : IsFound s reached
+  pub begins : BeginsAt reached place
+
+-- the places that were closed before and more, the place among them
+pub record IsClosedWith (s : Scene) (old new : List Bool) (place : ℕ) : Type 0 where
+  pub closed : IsClosed s new
+  pub here : IsSeen new place
+  pub still : (p : ℕ) → IsSeen old p → IsSeen new p

@@ -3,7 +3,7 @@
 ghost use Rattle.std.specs.Prelude.{ℕ, ◌≡◌, ◌+◌, ◌<◌, ◌≤◌, Bool, true, false, MatchBool, length, slice_set, slice_get, slice_index_or, Some, None, ◌∷◌, ◌++◌, [], Contains, IfOk, OnOk};
 ghost use Rattle.hall_match.specs.Holding.{given_at, has_room};
 ghost use Rattle.hall_match.specs.Rows.{lists, row_at, AreInside, AreRising};
-ghost use Rattle.hall_match.specs.Search.{scene, IsSeen, IsRowSeen, IsClosed, IsSearch, IsFound, GoesOn, IsLeastWay, IsUserAt, IsReady};
+ghost use Rattle.hall_match.specs.Search.{scene, IsSeen, IsRowSeen, IsClosed, IsSearch, IsFound, GoesOn, IsLeastWay, IsUserAt, IsReady, IsFoundFrom, IsClosedWith};
 
 use crate::allotment::Allotment;
 use crate::rows::row_of;
@@ -113,6 +113,45 @@ fn reach_by_users(
             return Ok(true);
         }
         user = users.before[item as usize];
+    }
+    Ok(false)
+}
+
+// Tries a place that isn't seen yet: goes on from it until a place with room is reached or all
+// that can be reached is gone through.
+fn reach_from(
+    capacities: &[Option<u32>],
+    rows: &[Vec<u32>],
+    held: &Allotment,
+    users: &Users,
+    search: &mut Search,
+    place: u32,
+) -> Result<bool, AllocError>
+    requires ready { let s = scene capacities.now rows.now held.now.given.items search.old.item in
+        IsReady s held.now.used.items users.now.last.items users.now.before.items }
+    requires places { length search.old.seen.items ≡ length capacities.now }
+    requires neighbour { Contains (row_at (lists rows.now) search.old.item) place }
+    requires unseen { slice_index_or search.old.seen.items place false ≡ false }
+    requires closed { let s = scene capacities.now rows.now held.now.given.items search.old.item in
+        IsClosed s search.old.seen.items }
+    ensures item { search.new.item ≡ search.old.item }
+    ensures places { OnOk result (length search.new.seen.items ≡ length search.old.seen.items) }
+    ensures outcome { let s = scene capacities.now rows.now held.now.given.items search.old.item in
+        IfOk result (λ found. MatchBool found
+            (IsFoundFrom s search.new.reached.items place)
+            (IsClosedWith s search.old.seen.items search.new.seen.items place)) }
+{
+    search.reached.clear();
+    visit(search, place, None)?;
+    if held.has_room(capacities, place) {
+        return Ok(true);
+    }
+    let mut at = 0;
+    while at < search.reached.len() {
+        if reach_by_users(capacities, rows, held, users, search, at)? {
+            return Ok(true);
+        }
+        at += 1;
     }
     Ok(false)
 }
