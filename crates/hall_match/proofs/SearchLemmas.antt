@@ -1,16 +1,17 @@
 -- The steps of a search: a place that is seen for the first time, and one that is gone through.
-use Rattle.std.proofs.Common.{ℕ, ◌≡◌, ◌<◌, ◌≤◌, ◌+◌, ◌-◌, List, [], ◌∷◌, ◌++◌, length, get_or, set, arith, zero, suc, sym, ◌∙◌, ap, refl, subst, Bool, true, false, not, cond, Option, Some, None, count_by, inl, inr}
+use Rattle.std.proofs.Common.{ℕ, ◌≡◌, ◌<◌, ◌≤◌, ◌+◌, ◌-◌, List, [], ◌∷◌, ◌++◌, length, get_or, set, replicate, arith, zero, suc, sym, ◌∙◌, ap, refl, subst, Bool, true, false, not, cond, Option, Some, None, count_by, inl, inr}
 use Rattle.std.specs.Prelude.{◌⊎◌, slice_get, Contains}
+use Rattle.std.specs.List.Sorted.{IsNonDecreasing}
 use Rattle.std.proofs.lemmas.Bool.{cases_eq, cases_lt, false≢true}
 use Rattle.std.proofs.lemmas.Option.{slice_get_within}
-use Rattle.std.proofs.lemmas.List.{length-set, length_push, get_or-set_same, get_or-set_other, get_or_default, get_or_read, get_or_past}
+use Rattle.std.proofs.lemmas.List.{length-set, length_push, get_or-set_same, get_or-set_other, get_or_default, get_or_read, get_or_past, get_or-replicate, length-replicate}
 use Rattle.std.proofs.lemmas.List.Elements.{Contains-get_or}
 use Rattle.std.proofs.lemmas.List.Sums.{sum_by-set}
 use Rattle.hall_match.specs.declared.search.Reached.{Reached}
 use Rattle.hall_match.specs.declared.search.Move.{Move}
 use Rattle.hall_match.specs.Holding.{given_at, has_room}
 use Rattle.hall_match.specs.Rows.{row_at}
-use Rattle.hall_match.specs.Search.{Scene, IsSeen, IsRowSeen, IsReachable, IsShutFrom, IsClosed, IsWay, IsTrail, IsWaiting, IsSearch, IsFound, GoesOn, IsUserAt}
+use Rattle.hall_match.specs.Search.{Scene, IsSeen, IsRowSeen, IsReachable, IsShutFrom, IsClosed, IsWay, IsTrail, IsWaiting, IsSearch, IsFound, IsFoundFrom, IsLeastWay, GoesOn, IsUserAt}
 
 -- a list with one more at its end
 pub get-push_old : {X : Type 0} (xs : List X) (y : X) (k : ℕ) (x : X) → slice_get xs k ≡ Some x → slice_get (xs ++ y ∷ []) k ≡ Some x
@@ -319,3 +320,40 @@ row_step s seen new before reached after by place h later up user c inside unsee
       full = λ full. row_push s seen reached by place h later at c unseen inside full;
       found = λ room. row_found s seen reached by place h later at c unseen room;
     })
+
+-- nothing is seen at first
+pub closed_none : (s : Scene) (n : ℕ) → IsClosed s (replicate n false)
+closed_none s n = record {
+  reachable = λ place e. absurd (unseen place e);
+  full = λ place e. absurd (unseen place e);
+  shut = λ place e. absurd (unseen place e);
+}
+  where
+    unseen : (place : ℕ) → IsSeen (replicate n false) place → ⊥
+    unseen place e =
+        let inside = seen_inside (replicate n false) place e in
+        let long = length-replicate {A = Bool} n false in
+        false≢true (sym (get_or-replicate {A = Bool} n place false false (omega (arith, inside, long))) ∙ e)
+
+-- the lesser places of a row stand before
+pub lesser_seen : (seen : List Bool) (row : List ℕ) (i : ℕ) → IsNonDecreasing row → i < length row → ((k : ℕ) → k < i → IsSeen seen (get_or row k 0)) → (place : ℕ) → Contains row place → place < get_or row i 0 → IsSeen seen place
+lesser_seen seen row i up inside h place c less = either (cases_lt c.0 i)
+  where
+    there : get_or row c.0 0 ≡ place
+    there = get_or_default row c.0 0 place c.1 ∙ c.2
+
+    either : (c.0 < i) ⊎ (i ≤ c.0) → IsSeen seen place
+    either (inl l) = let r = h c.0 l in rw there at r
+    either (inr l) = let r = up i c.0 0 l c.1 in let e = there in absurd (omega (arith, r, e, less))
+
+pub least_way : (s : Scene) (seen : List Bool) (reached : List Reached) (items : List ℕ) (i : ℕ) → items ≡ row_at s.rows s.item → IsNonDecreasing (row_at s.rows s.item) → i < length items → IsClosed s seen
+    → ((k : ℕ) → k < i → IsSeen seen (get_or items k 0)) → IsFoundFrom s reached (get_or items i 0) → IsLeastWay s reached
+least_way s seen reached items i e up inside closed h f = record {
+  found = f.found;
+  first = record { place = get_or items i 0; by = None };
+  is_first = f.begins;
+  neighbour = near (row_at s.rows s.item) items i e inside;
+  closed = seen;
+  is_closed = closed;
+  least = λ place c less. lesser_seen seen items i (rw e up) inside h place (rw e c) less;
+}

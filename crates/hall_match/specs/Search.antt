@@ -4,6 +4,8 @@ use Rattle.std.specs.Prelude.{Vec}
 use Rattle.std.specs.declared.alloc.Global.{Global}
 use Rattle.hall_match.specs.declared.search.Reached.{Reached}
 use Rattle.hall_match.specs.declared.search.Move.{Move}
+use Rattle.hall_match.specs.declared.search.Found.{Found}
+use Rattle.hall_match.specs.declared.search.Found.TheVariants.{Way, Closed}
 use Rattle.hall_match.specs.Holding.{given_at, has_room}
 use Rattle.hall_match.specs.Rows.{lists, row_at, AreInside}
 use Rattle.hall_match.specs.Chains.{AreChains}
@@ -114,3 +116,14 @@ pub record IsClosedWith (s : Scene) (old new : List Bool) (place : ℕ) : Type 0
   pub closed : IsClosed s new
   pub here : IsSeen new place
   pub still : (p : ℕ) → IsSeen old p → IsSeen new p
+
+-- each place of the item's row is closed
+pub record IsClosedRow (s : Scene) (seen : List Bool) : Type 0 where
+  pub places : length seen ≡ length s.capacities
+  pub closed : IsClosed s seen
+  pub row : IsRowSeen seen (row_at s.rows s.item)
+
+-- what the search has found: a way from the least place that can be had, or that there is none
+abbrev pub IsOutcome : Scene → Found → Type 0
+IsOutcome s (Way reached) = IsLeastWay s reached.items
+IsOutcome s (Closed seen) = IsClosedRow s seen.items

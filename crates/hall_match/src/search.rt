@@ -3,7 +3,7 @@
 ghost use Rattle.std.specs.Prelude.{ℕ, ◌≡◌, ◌+◌, ◌<◌, ◌≤◌, Bool, true, false, MatchBool, length, slice_set, slice_get, slice_index_or, Some, None, ◌∷◌, ◌++◌, [], Contains, IfOk, OnOk};
 ghost use Rattle.hall_match.specs.Holding.{given_at, has_room};
 ghost use Rattle.hall_match.specs.Rows.{lists, row_at, AreInside, AreRising};
-ghost use Rattle.hall_match.specs.Search.{scene, IsSeen, IsRowSeen, IsClosed, IsSearch, IsFound, GoesOn, IsLeastWay, IsUserAt, IsReady, IsFoundFrom, IsClosedWith};
+ghost use Rattle.hall_match.specs.Search.{scene, IsSeen, IsRowSeen, IsClosed, IsSearch, IsFound, GoesOn, IsLeastWay, IsUserAt, IsReady, IsFoundFrom, IsClosedWith, IsOutcome};
 
 use crate::allotment::Allotment;
 use crate::rows::row_of;
@@ -31,6 +31,13 @@ pub struct Search {
     pub item: u32,
     pub seen: Vec<bool>,
     pub reached: Vec<Reached>,
+}
+
+/// What a search has found: a way to a place with room, or the places that are closed.
+#[derive(Drop)]
+pub enum Found {
+    Way(Vec<Reached>),
+    Closed(Vec<bool>),
 }
 
 // Marks the place as seen, and puts it last among those that were reached.
@@ -154,4 +161,37 @@ fn reach_from(
         at += 1;
     }
     Ok(false)
+}
+
+/// Tries the places of the item's row, the least first, for one with room or with a way to room.
+pub fn find_way(
+    alloc: Global,
+    capacities: &[Option<u32>],
+    rows: &[Vec<u32>],
+    held: &Allotment,
+    users: &Users,
+    item: u32,
+) -> Result<Found, AllocError>
+    requires item { item < length rows.now }
+    requires rising { AreRising (lists rows.now) }
+    requires ready { let s = scene capacities.now rows.now held.now.given.items item in
+        IsReady s held.now.used.items users.now.last.items users.now.before.items }
+    ensures { let s = scene capacities.now rows.now held.now.given.items item in
+        IfOk result (IsOutcome s) }
+{
+    let mut search = Search {
+        item,
+        seen: vec![in alloc; false; capacities.len()]?,
+        reached: Vec::new(alloc),
+    };
+    for place in row_of(rows, item) {
+        if !search.seen[*place as usize] {
+            if reach_from(capacities, rows, held, users, &mut search, *place)? {
+                let Search { item: _, seen: _, reached } = search;
+                return Ok(Found::Way(reached));
+            }
+        }
+    }
+    let Search { item: _, seen, reached: _ } = search;
+    Ok(Found::Closed(seen))
 }
