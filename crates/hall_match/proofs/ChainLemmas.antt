@@ -59,7 +59,7 @@ chains_used given low high place ends links up is inside room h = record {
         rw (s, get_or-set_same links high (get_or ends place None) None room, same) (h.last place inside)
     before item q l below e (inr n) = rw (get_or-set_other links high item (get_or ends place None) None n) (h.before item q l (omega (arith, n, below)) e)
 
--- what is no place is none
-pub none_from : (given : Option ℕ) → ((place : ℕ) → given ≡ Some place → ⊥) → given ≡ None
+-- what is nothing is none
+pub none_from : {X : Type 0} (given : Option X) → ((x : X) → given ≡ Some x → ⊥) → given ≡ None
 none_from None n = refl
-none_from (Some place) n = absurd (n place refl)
+none_from (Some x) n = absurd (n x refl)

@@ -5,3 +5,4 @@ pub mod HoldingLemmas
 pub mod ChainLemmas
 pub mod SearchLemmas
 pub mod WalkLemmas
+pub mod MoveLemmas

@@ -3,3 +3,4 @@ pub mod Holding
 pub mod Matchings
 pub mod Rows
 pub mod Search
+pub mod Settling

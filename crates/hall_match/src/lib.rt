@@ -5,6 +5,7 @@ mod allotment;
 mod laws;
 mod rows;
 mod search;
+mod settling;
 mod users;
 
 pub use laws::{deficient_law, least_law};
