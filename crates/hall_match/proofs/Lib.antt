@@ -6,3 +6,6 @@ pub mod ChainLemmas
 pub mod SearchLemmas
 pub mod WalkLemmas
 pub mod MoveLemmas
+pub mod MarkLemmas
+pub mod DeficiencyLemmas
+pub mod ExclusionLemmas

@@ -1,3 +1,4 @@
+pub mod Blocking
 pub mod Chains
 pub mod Holding
 pub mod Matchings
