@@ -1,12 +1,13 @@
 -- The items that stand against every matching are a deficient list.
-use Rattle.std.proofs.Common.{ℕ, ◌≡◌, ◌<◌, ◌≤◌, ◌+◌, List, length, get_or, arith, sym, ◌∙◌, ap, refl, subst, Bool, true, false, Option, Some, None, unwrap_or, inl, inr}
+use Rattle.std.proofs.Common.{ℕ, ◌≡◌, ◌<◌, ◌≤◌, ◌+◌, List, length, get_or, arith, sym, ◌∙◌, ap, refl, subst, Bool, true, false, Option, Some, None, eqb, inl, inr}
 use Rattle.std.specs.Prelude.{◌⊎◌, ◌↔◌, Contains}
-use Rattle.std.proofs.lemmas.Bool.{cases_lt, cases_eq, false≢true}
+use Rattle.std.proofs.lemmas.Bool.{cases_lt, false≢true, eqb-true, eq-eqb, or_cases, or_left, or_right}
 use Rattle.hall_match.specs.Holding.{given_at, holders, has_room}
 use Rattle.hall_match.specs.Matchings.{IsDeficient, IsNeighbour, capacity_at, capacity_of}
 use Rattle.hall_match.specs.Rows.{row_at, HaveEdges}
 use Rattle.hall_match.specs.Search.{Scene, IsSeen, IsReachable, IsClosed, IsClosedRow}
 use Rattle.hall_match.specs.Blocking.{is_seen_at, AreBlocked}
+use Rattle.hall_match.proofs.HoldingLemmas.{given_inside}
 use Rattle.hall_match.proofs.MarkLemmas.{seen_places, seen_has, seen_only, marked_rising, increasing, full_limit, closed_counts}
 
 -- an item that is given a seen place is given one
@@ -14,27 +15,27 @@ pub seen_at : (seen : List Bool) (given : Option ℕ) → is_seen_at seen given 
 seen_at seen None e = absurd (false≢true e)
 seen_at seen (Some place) e = (place, refl, e)
 
-module _ (s : Scene) (left : ℕ) (edges : List (ℕ × ℕ)) (seen : List Bool) (items : List ℕ) (rows : HaveEdges s.rows edges) (whole : length s.given ≡ left) (none : (item : ℕ) → item < s.item + 1 → given_at s.given item ≡ None)
+module _ (s : Scene) (left : ℕ) (edges : List (ℕ × ℕ)) (seen : List Bool) (items : List ℕ) (rows : HaveEdges s.rows edges) (whole : length s.given ≡ left) (inside : s.item < length s.given) (none : (item : ℕ) → item < s.item + 1 → given_at s.given item ≡ None)
     (closed : IsClosedRow s seen) (blocked : AreBlocked s.given seen s.item items) where
   -- each seen place is a neighbour
   pub seen_neighbour : (place : ℕ) → IsSeen seen place → IsNeighbour edges items place
   seen_neighbour place e = either (closed.closed.reachable place e)
     where
       either : IsReachable s seen place → IsNeighbour edges items place
-      either (inl c) = (s.item, (blocked.exact s.item).1 (inl refl), (rows s.item place).0 c)
+      either (inl c) = (s.item, (blocked.exact s.item).1 (inside, or_left (eqb s.item s.item) (is_seen_at seen (given_at s.given s.item)) (eq-eqb s.item s.item refl)), (rows s.item place).0 c)
       either (inr w) =
           let is : is_seen_at seen (given_at s.given w.1) ≡ true = subst (λ (o : Option ℕ). is_seen_at seen o ≡ true) (sym w.4) w.2 in
-          (w.1, (blocked.exact w.1).1 (inr is), (rows w.1 place).0 w.5)
+          (w.1, (blocked.exact w.1).1 (given_inside s.given w.1 w.0 w.4, or_right (eqb w.1 s.item) (is_seen_at seen (given_at s.given w.1)) is), (rows w.1 place).0 w.5)
 
   -- each neighbour is a seen place
   pub neighbour_seen : (place : ℕ) → IsNeighbour edges items place → IsSeen seen place
-  neighbour_seen place n = either ((blocked.exact n.0).0 n.1)
+  neighbour_seen place n = let b = (blocked.exact n.0).0 n.1 in either (or_cases (eqb n.0 s.item) (is_seen_at seen (given_at s.given n.0)) b.1)
     where
       near : Contains (row_at s.rows n.0) place
       near = (rows n.0 place).1 n.2
 
-      either : (n.0 ≡ s.item) ⊎ (is_seen_at seen (given_at s.given n.0) ≡ true) → IsSeen seen place
-      either (inl e) = closed.row place (rw e at near)
+      either : (eqb n.0 s.item ≡ true) ⊎ (is_seen_at seen (given_at s.given n.0) ≡ true) → IsSeen seen place
+      either (inl e) = let same = eqb-true n.0 s.item e in closed.row place (rw same at near)
       either (inr e) =
           let g = seen_at seen (given_at s.given n.0) e in
           closed.closed.shut g.0 g.2 n.0 (later (cases_lt n.0 (s.item + 1)) g.0 g.1) g.1 place near

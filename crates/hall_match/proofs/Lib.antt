@@ -9,3 +9,4 @@ pub mod MoveLemmas
 pub mod MarkLemmas
 pub mod DeficiencyLemmas
 pub mod ExclusionLemmas
+pub mod BlockingLemmas

@@ -2,6 +2,7 @@
 #![tactic(auto)]
 
 mod allotment;
+mod deficiency;
 mod laws;
 mod rows;
 mod search;
