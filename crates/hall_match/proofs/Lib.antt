@@ -10,3 +10,4 @@ pub mod MarkLemmas
 pub mod DeficiencyLemmas
 pub mod ExclusionLemmas
 pub mod BlockingLemmas
+pub mod SettlingLemmas

@@ -4,6 +4,7 @@
 mod allotment;
 mod deficiency;
 mod laws;
+mod outcome;
 mod rows;
 mod search;
 mod settling;

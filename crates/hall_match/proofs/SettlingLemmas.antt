@@ -1,0 +1,70 @@
+-- What is left of an allotment once an item is settled.
+use Rattle.std.proofs.Common.{ℕ, ◌≡◌, ◌<◌, ◌≤◌, ◌+◌, List, [], ◌∷◌, length, get_or, set, arith, zero, suc, sym, ◌∙◌, ap, refl, subst, Bool, true, false, cond, eqb, Option, Some, None, count_by, inl, inr}
+use Rattle.std.specs.Prelude.{◌⊎◌, Contains}
+use Rattle.std.proofs.lemmas.Bool.{cases_eq, cases_lt, cases_order, false≢true}
+use Rattle.std.proofs.lemmas.List.{length-set, get_or-set_same, get_or-set_other, get_or_past, set_past}
+use Rattle.hall_match.specs.Holding.{is_at, given_at, holders, has_room, IsHeld}
+use Rattle.hall_match.specs.Matchings.{IsMatching, capacity_at, uses}
+use Rattle.hall_match.specs.Rows.{row_at, HaveEdges}
+use Rattle.hall_match.specs.Search.{Scene, IsSeen, IsClosed, IsClosedRow}
+use Rattle.hall_match.specs.Settling.{IsGiven, Settles}
+use Rattle.hall_match.specs.Outcome.{AgreesTo, IsUpTo}
+use Rattle.hall_match.proofs.HoldingLemmas.{given_inside, holders-release, holders-release_other, holders-set, one_at}
+use Rattle.hall_match.proofs.MoveLemmas.{fits_more}
+use Rattle.hall_match.proofs.ExclusionLemmas.{excluded}
+
+-- the items from the settled one on are given places, where the later ones were
+pub given_down : (s : Scene) (new : List (Option ℕ)) → Settles s new → (k : ℕ) → s.item ≤ k → (s.item < k → IsGiven s.given k) → IsGiven new k
+given_down s new h k l later = either (cases_eq k s.item)
+  where
+    either : (k ≡ s.item) ⊎ (k ≡ s.item → ⊥) → IsGiven new k
+    either (inl e) = (h.place, ap (given_at new) e ∙ h.here)
+    either (inr n) = let m : s.item < k = omega (arith, l, n) in h.after k m (later m)
+
+-- an item whose place is taken from it
+module _ (capacities : List (Option ℕ)) (rows : List (List ℕ)) (given : List (Option ℕ)) (item : ℕ) (held : IsHeld capacities rows given) where
+  pub release_free : given_at (set given item None) item ≡ None
+  release_free = either (cases_lt item (length given))
+    where
+      either : (item < length given) ⊎ (length given ≤ item) → given_at (set given item None) item ≡ None
+      either (inl l) = get_or-set_same given item None None l
+      either (inr l) = let long = length-set {A = Option ℕ} given item None in get_or_past (set given item None) item None (omega (arith, long, l))
+
+  pub release_other : (k : ℕ) → (k ≡ item → ⊥) → given_at (set given item None) k ≡ given_at given k
+  release_other k n = get_or-set_other given item k None None n
+
+  pub held_release : IsHeld capacities rows (set given item None)
+  held_release = record {
+    neighbours = λ i p e. neighbours i p e (cases_eq i item);
+    within = λ p most e. within p most e (cases_lt item (length given));
+  }
+    where
+      neighbours : (i p : ℕ) → given_at (set given item None) i ≡ Some p → (i ≡ item) ⊎ (i ≡ item → ⊥) → Contains (row_at rows i) p
+      neighbours i p e (inl s) = let free = ap (given_at (set given item None)) s ∙ release_free in absurd (cc)
+      neighbours i p e (inr n) = held.neighbours i p (sym (release_other i n) ∙ e)
+
+      within : (p most : ℕ) → capacity_at capacities p ≡ Some most → (item < length given) ⊎ (length given ≤ item) → holders p (set given item None) ≤ most
+      within p most e (inl l) =
+          let a = holders-set given item p None l in
+          let b = held.within p most e in omega (arith, a, b)
+      within p most e (inr l) =
+          let a = ap (holders p) (set_past given item None l) in
+          let b = held.within p most e in omega (arith, a, b)
+
+  -- the place that it had has room then
+  pub release_room : (place : ℕ) → given_at given item ≡ Some place → has_room capacities (set given item None) place ≡ true
+  release_room place e = fits_more (capacity_at capacities place) (holders place (set given item None)) fits
+    where
+      fits : (most : ℕ) → capacity_at capacities place ≡ Some most → holders place (set given item None) < most
+      fits most is =
+          let a = holders-release given item place e in
+          let b = held.within place most is in omega (arith, a, b)
+
+-- so its row isn't closed
+pub row_open : (s : Scene) (given : List (Option ℕ)) (seen : List Bool) (place : ℕ) → s.given ≡ set given s.item None → IsHeld s.capacities s.rows given → given_at given s.item ≡ Some place → IsClosedRow s seen → ⊥
+row_open s given seen place is held e closed =
+    let near = held.neighbours s.item place e in
+    let full = closed.closed.full place (closed.row place near) in
+    let room = release_room s.capacities s.rows given s.item held place e in
+    let same = ap (λ g. has_room s.capacities g place) is in
+    false≢true (sym full ∙ same ∙ room)

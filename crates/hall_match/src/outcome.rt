@@ -1,0 +1,55 @@
+//! The least full matching, or items whose neighbours hold too few.
+
+ghost use Rattle.std.specs.Prelude.{ℕ, ◌≡◌, ◌<◌, length, List, Option, Some, None, slice_index, MatchOption, IfOk, OnOk};
+ghost use Rattle.hall_match.specs.Matchings.{AreEdges, IsMatching, IsLeast, IsDeficient};
+ghost use Rattle.hall_match.specs.Holding.{given_at, IsHeld};
+ghost use Rattle.hall_match.specs.Rows.{lists, HaveEdges, AreInside, AreRising};
+ghost use Rattle.hall_match.specs.Settling.{IsGiven};
+ghost use Rattle.hall_match.specs.Outcome.{IfMatched, IfDeficient, IsUpTo};
+
+use crate::allotment::Allotment;
+use crate::deficiency::blocked_items;
+use crate::rows::rows_of;
+use crate::settling::settle;
+use std::alloc::{AllocError, Global};
+
+/// The answer of `match_all`.
+#[derive(Debug, Drop)]
+pub enum Matching {
+    /// The place of each item: the least such list.
+    Matched(Vec<u32>),
+    /// Items, rising, whose neighbours' capacities together are fewer than they are.
+    Deficient(Vec<u32>),
+}
+
+// Gives each item some place, the last item first.
+fn settle_all(
+    alloc: Global,
+    capacities: &[Option<u32>],
+    rows: &[Vec<u32>],
+    held: &mut Allotment,
+    left: u32,
+) -> Result<Option<Vec<u32>>, AllocError>
+    requires left { length rows.now ≡ left }
+    requires whole { length held.old.given.items ≡ left }
+    requires places { length held.old.used.items ≡ length capacities.now }
+    requires inside { AreInside (lists rows.now) (length capacities.now) }
+    requires rising { AreRising (lists rows.now) }
+    requires none { (item : ℕ) → given_at held.old.given.items item ≡ None }
+    requires held { IsHeld capacities.now (lists rows.now) held.old.given.items }
+    ensures whole { OnOk result (length held.new.given.items ≡ left) }
+    ensures places { OnOk result (length held.new.used.items ≡ length capacities.now) }
+    ensures held { OnOk result (IsHeld capacities.now (lists rows.now) held.new.given.items) }
+    ensures given { IfOk result (λ blocked. MatchOption blocked
+        ((item : ℕ) → item < left → IsGiven held.new.given.items item) (λ _. Unit {0})) }
+    ensures deficient { IfOk result (λ blocked. MatchOption blocked (Unit {0})
+        (λ items. (edges : List (ℕ × ℕ)) → HaveEdges (lists rows.now) edges →
+            IsDeficient left capacities.now edges items.items)) }
+{
+    for item in (0..left).rev() {
+        if let Some(seen) = settle(alloc, capacities, rows, held, item)? {
+            return Ok(Some(blocked_items(alloc, &held.given, &seen, item)?));
+        }
+    }
+    Ok(None)
+}
