@@ -1,8 +1,8 @@
 -- The blocked items, collected one after another.
-use Rattle.std.proofs.Common.{ℕ, ◌≡◌, ◌<◌, ◌≤◌, ◌+◌, List, [], ◌∷◌, ◌++◌, length, get_or, take, arith, sym, ◌∙◌, ap, refl, subst, Bool, true, false, cond, eqb, ltb, Option, Some, None, count_by, inl, inr}
-use Rattle.std.specs.Prelude.{◌⊎◌, ◌↔◌, ◌||◌, Contains, All}
+use Rattle.std.proofs.Common.{ℕ, ◌≡◌, ◌<◌, ◌≤◌, ◌+◌, List, [], ◌∷◌, ◌++◌, length, get_or, take, arith, sym, ◌∙◌, ap, Bool, true, false, cond, eqb, ltb, Option, None, count_by, inl, inr}
+use Rattle.std.specs.Prelude.{◌⊎◌, ◌↔◌, Contains, All}
 use Rattle.std.specs.List.Sorted.{IsStrictlyIncreasing}
-use Rattle.std.proofs.lemmas.Bool.{cases_eq, cases_lt, or_cases, or_parts, eqb-true, eqb-false, eq-eqb, lt-ltb, le-ltb, false≢true}
+use Rattle.std.proofs.lemmas.Bool.{cases_eq, cases_lt, or_cases, or_parts, eqb-true, eqb-false, lt-ltb, le-ltb, false≢true}
 use Rattle.std.proofs.lemmas.List.{length_push, get_or_append_left, get_or_push, take_all}
 use Rattle.std.proofs.lemmas.List.Elements.{All-push, All-weaker, Contains-append_left, Contains-push, Contains-push_cases}
 use Rattle.std.proofs.lemmas.List.Sums.{count_by_more_yes, count_by_more_no}

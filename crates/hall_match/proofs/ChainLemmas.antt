@@ -1,10 +1,10 @@
 -- Chains of users, grown item by item.
 use Rattle.std.proofs.Common.{ℕ, ◌≡◌, ◌<◌, ◌≤◌, ◌+◌, List, length, get_or, set, replicate, arith, sym, ◌∙◌, ap, refl, Option, Some, None, inl, inr}
 use Rattle.std.specs.Prelude.{◌⊎◌}
-use Rattle.std.proofs.lemmas.Bool.{cases_eq, cases_lt}
+use Rattle.std.proofs.lemmas.Bool.{cases_eq}
 use Rattle.std.proofs.lemmas.List.{length-set, get_or-set_same, get_or-set_other, get_or-replicate, length-replicate}
 use Rattle.hall_match.specs.Holding.{given_at}
-use Rattle.hall_match.specs.Chains.{NoUser, IsLastUser, AreChains}
+use Rattle.hall_match.specs.Chains.{IsLastUser, AreChains}
 
 -- one more item, which is not given the place
 pub wider : (given : List (Option ℕ)) (place low high : ℕ) (found : Option ℕ) → (given_at given high ≡ Some place → ⊥) → IsLastUser given place low high found → IsLastUser given place low (high + 1) found

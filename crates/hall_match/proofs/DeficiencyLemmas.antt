@@ -1,11 +1,11 @@
 -- The items that stand against every matching are a deficient list.
-use Rattle.std.proofs.Common.{ℕ, ◌≡◌, ◌<◌, ◌≤◌, ◌+◌, List, length, get_or, arith, sym, ◌∙◌, ap, refl, subst, Bool, true, false, Option, Some, None, eqb, inl, inr}
-use Rattle.std.specs.Prelude.{◌⊎◌, ◌↔◌, Contains}
+use Rattle.std.proofs.Common.{ℕ, ◌≡◌, ◌<◌, ◌≤◌, ◌+◌, List, length, arith, sym, refl, subst, Bool, true, Option, Some, None, eqb, inl, inr}
+use Rattle.std.specs.Prelude.{◌⊎◌, Contains}
 use Rattle.std.proofs.lemmas.Bool.{cases_lt, false≢true, eqb-true, eq-eqb, or_cases, or_left, or_right}
-use Rattle.hall_match.specs.Holding.{given_at, holders, has_room}
-use Rattle.hall_match.specs.Matchings.{IsDeficient, IsNeighbour, capacity_at, capacity_of}
+use Rattle.hall_match.specs.Holding.{given_at, holders}
+use Rattle.hall_match.specs.Matchings.{IsDeficient, IsNeighbour, capacity_at}
 use Rattle.hall_match.specs.Rows.{row_at, HaveEdges}
-use Rattle.hall_match.specs.Search.{Scene, IsSeen, IsReachable, IsClosed, IsClosedRow}
+use Rattle.hall_match.specs.Search.{Scene, IsSeen, IsReachable, IsClosedRow}
 use Rattle.hall_match.specs.Blocking.{is_seen_at, AreBlocked}
 use Rattle.hall_match.proofs.HoldingLemmas.{given_inside}
 use Rattle.hall_match.proofs.MarkLemmas.{seen_places, seen_has, seen_only, marked_rising, increasing, full_limit, closed_counts}

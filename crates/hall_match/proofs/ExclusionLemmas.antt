@@ -5,7 +5,7 @@ use Rattle.std.specs.List.{list_any}
 use Rattle.std.proofs.lemmas.Bool.{cases_order, false≢true}
 use Rattle.hall_match.specs.Holding.{is_at, given_at, holders}
 use Rattle.hall_match.specs.Matchings.{IsMatching, capacity_at, capacity_of, uses}
-use Rattle.hall_match.specs.Rows.{row_at, HaveEdges}
+use Rattle.hall_match.specs.Rows.{HaveEdges}
 use Rattle.hall_match.specs.Search.{Scene, IsSeen, IsClosed}
 use Rattle.hall_match.specs.Blocking.{is_seen_at}
 use Rattle.hall_match.proofs.CountLemmas.{sum-counts, sum-le, count-cons}
@@ -65,7 +65,7 @@ pub excluded : (s : Scene) (left : ℕ) (edges : List (ℕ × ℕ)) (seen : List
 excluded s left edges seen other rows whole inside free agrees closed m here =
     let full = m.whole in
     let more = count_more (is_seen_at seen) (λ x. list_any (λ p. is_at p (Some x)) (seen_places seen)) None 0 s.given other s.item (omega (arith, whole, full)) (λ k l e. kept k l e (cases_order k s.item)) (omega (arith, inside, whole))
-        (ap (is_seen_at seen) free) (contained_any (seen_places seen) (get_or other s.item 0) (seen_has seen (get_or other s.item 0) here)) in
+    (ap (is_seen_at seen) free) (contained_any (seen_places seen) (get_or other s.item 0) (seen_has seen (get_or other s.item 0) here)) in
     let counts = sum-counts {X = ℕ} (λ x. Some x) 0 (seen_places seen) other (marked_rising 0 seen) in
     let fit = uses_fit left s.capacities edges other (seen_places seen) m (λ p c. limit p (seen_only seen p c)) in
     let room = closed_counts s seen closed in omega (arith, more, counts, fit, room)

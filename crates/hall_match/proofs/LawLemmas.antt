@@ -1,13 +1,13 @@
 -- A deficient list stands against every matching, and there is only one least matching.
-use Rattle.std.proofs.Common.{ℕ, ◌≡◌, ◌<◌, ◌≤◌, ◌+◌, List, [], ◌∷◌, length, get_or, take, arith, sym, ◌∙◌, ap, refl, Bool, true, eqb, Option, Some, None, sum_by, count_by, unwrap_or, inl, inr}
-use Rattle.std.specs.Prelude.{◌⊎◌, Contains}
+use Rattle.std.proofs.Common.{ℕ, ◌≡◌, ◌<◌, ◌≤◌, List, length, get_or, arith, sym, ap, true, Option, Some, unwrap_or}
+use Rattle.std.specs.Prelude.{Contains}
 use Rattle.std.specs.List.{list_any}
 use Rattle.std.proofs.lemmas.List.{get_or_default}
 use Rattle.std.proofs.lemmas.List.Folds.{list_any_at}
 use Rattle.std.proofs.lemmas.Bool.{eq-eqb}
 use Rattle.hall_match.specs.Holding.{is_at}
-use Rattle.hall_match.specs.Matchings.{IsMatching, IsLeast, IsBefore, IsDeficient, capacity_at, capacity_of, uses}
-use Rattle.hall_match.proofs.CountLemmas.{IsRising, rising_from, sum-counts, few, sum-le}
+use Rattle.hall_match.specs.Matchings.{IsMatching, IsDeficient, capacity_at, uses}
+use Rattle.hall_match.proofs.CountLemmas.{rising_from, sum-counts, few, sum-le}
 
 -- a place of the list passes the test for any of them
 pub contained_any : (places : List ℕ) (x : ℕ) → Contains places x → list_any (λ p. is_at p (Some x)) places ≡ true

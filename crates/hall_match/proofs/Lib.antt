@@ -11,3 +11,4 @@ pub mod DeficiencyLemmas
 pub mod ExclusionLemmas
 pub mod BlockingLemmas
 pub mod SettlingLemmas
+pub mod LeastLemmas

@@ -1,16 +1,15 @@
 -- The seen places as a list, and what their capacities are against the items that are given them.
-use Rattle.std.proofs.Common.{ℕ, ◌≡◌, ◌<◌, ◌≤◌, ◌+◌, List, [], ◌∷◌, length, get_or, arith, zero, suc, sym, ◌∙◌, ap, refl, subst, Bool, true, false, cond, eqb, ltb, Option, Some, None, sum_by, count_by, unwrap_or, inl, inr}
+use Rattle.std.proofs.Common.{ℕ, ◌≡◌, ◌<◌, ◌≤◌, ◌+◌, List, [], ◌∷◌, length, get_or, arith, zero, suc, sym, ap, refl, subst, Bool, true, false, cond, eqb, Option, Some, None, count_by, unwrap_or, inl, inr}
 use Rattle.std.specs.Prelude.{◌⊎◌, Contains}
 use Rattle.std.specs.List.{list_any}
 use Rattle.std.specs.List.Sorted.{IsStrictlyIncreasing}
 use Rattle.std.proofs.lemmas.Bool.{eqb-true, ltb-false, or_cases, false≢true}
-use Rattle.std.proofs.lemmas.List.{get_or_default}
 use Rattle.std.proofs.lemmas.List.Sums.{sum_by-le-sum_by}
-use Rattle.hall_match.specs.Holding.{is_at, given_at, holders, has_more, has_room}
+use Rattle.hall_match.specs.Holding.{is_at, holders, has_more}
 use Rattle.hall_match.specs.Matchings.{capacity_at, capacity_of}
 use Rattle.hall_match.specs.Search.{Scene, IsSeen, IsClosed}
 use Rattle.hall_match.specs.Blocking.{is_seen_at}
-use Rattle.hall_match.proofs.CountLemmas.{IsRising, sum-counts, sum-le, count-cons}
+use Rattle.hall_match.proofs.CountLemmas.{IsRising, sum-counts, sum-le}
 
 pub contains_here : {X : Type 0} (x : X) (xs : List X) → Contains (x ∷ xs) x
 contains_here x xs = (0, omega arith, refl)

@@ -1,7 +1,7 @@
 -- Items that are moved along a way, from its end to where it begins.
-use Rattle.std.proofs.Common.{ℕ, ◌≡◌, ◌<◌, ◌≤◌, ◌+◌, ◌-◌, List, length, get_or, set, arith, sym, ◌∙◌, ap, refl, subst, Bool, true, false, ltb, Option, Some, None, inl, inr}
+use Rattle.std.proofs.Common.{ℕ, ◌≡◌, ◌<◌, ◌≤◌, ◌+◌, ◌-◌, List, length, set, arith, sym, ◌∙◌, ap, refl, subst, true, Option, Some, None, inl, inr}
 use Rattle.std.specs.Prelude.{◌⊎◌, slice_get, Contains}
-use Rattle.std.proofs.lemmas.Bool.{cases_eq, ltb-true, lt-ltb, false≢true}
+use Rattle.std.proofs.lemmas.Bool.{cases_eq, ltb-true, lt-ltb}
 use Rattle.std.proofs.lemmas.Option.{slice_get_within}
 use Rattle.std.proofs.lemmas.List.{length-set, get_or-set_same, get_or-set_other}
 use Rattle.hall_match.specs.declared.search.Reached.{Reached}

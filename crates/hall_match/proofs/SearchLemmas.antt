@@ -9,7 +9,7 @@ use Rattle.std.proofs.lemmas.List.Elements.{Contains-get_or}
 use Rattle.std.proofs.lemmas.List.Sums.{sum_by-set}
 use Rattle.hall_match.specs.declared.search.Reached.{Reached}
 use Rattle.hall_match.specs.declared.search.Move.{Move}
-use Rattle.hall_match.specs.Holding.{given_at, has_room}
+use Rattle.hall_match.specs.Holding.{has_room}
 use Rattle.hall_match.specs.Rows.{row_at}
 use Rattle.hall_match.specs.Search.{Scene, IsSeen, IsRowSeen, IsReachable, IsShutFrom, IsClosed, IsWay, IsTrail, IsWaiting, IsSearch, IsFound, IsFoundFrom, IsLeastWay, GoesOn, IsUserAt}
 

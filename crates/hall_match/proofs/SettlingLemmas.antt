@@ -1,17 +1,18 @@
 -- What is left of an allotment once an item is settled.
-use Rattle.std.proofs.Common.{ℕ, ◌≡◌, ◌<◌, ◌≤◌, ◌+◌, List, [], ◌∷◌, length, get_or, set, arith, zero, suc, sym, ◌∙◌, ap, refl, subst, Bool, true, false, cond, eqb, Option, Some, None, count_by, inl, inr}
-use Rattle.std.specs.Prelude.{◌⊎◌, Contains}
-use Rattle.std.proofs.lemmas.Bool.{cases_eq, cases_lt, cases_order, false≢true}
-use Rattle.std.proofs.lemmas.List.{length-set, get_or-set_same, get_or-set_other, get_or_past, set_past}
+use Rattle.std.proofs.Common.{ℕ, ◌≡◌, ◌<◌, ◌≤◌, List, length, set, replicate, arith, zero, suc, sym, ◌∙◌, ap, refl, subst, Bool, true, false, Option, Some, None, inl, inr}
+use Rattle.std.specs.Prelude.{◌⊎◌, Contains, MatchOption, IsSome}
+use Rattle.std.specs.Option.{is_some}
+use Rattle.std.proofs.lemmas.Bool.{cases_eq, cases_lt, false≢true}
+use Rattle.std.proofs.lemmas.List.{length-set, get_or-set_same, get_or-set_other, get_or_past, get_or-replicate, length-replicate, set_past}
+use Rattle.std.proofs.lemmas.List.Elements.{All-contains}
 use Rattle.hall_match.specs.Holding.{is_at, given_at, holders, has_room, IsHeld}
-use Rattle.hall_match.specs.Matchings.{IsMatching, capacity_at, uses}
-use Rattle.hall_match.specs.Rows.{row_at, HaveEdges}
-use Rattle.hall_match.specs.Search.{Scene, IsSeen, IsClosed, IsClosedRow}
+use Rattle.hall_match.specs.Matchings.{AreEdges, capacity_at}
+use Rattle.hall_match.specs.Rows.{row_at, HaveEdges, AreInside}
+use Rattle.hall_match.specs.Search.{Scene, IsClosedRow}
 use Rattle.hall_match.specs.Settling.{IsGiven, Settles}
-use Rattle.hall_match.specs.Outcome.{AgreesTo, IsUpTo}
-use Rattle.hall_match.proofs.HoldingLemmas.{given_inside, holders-release, holders-release_other, holders-set, one_at}
+use Rattle.hall_match.proofs.CountLemmas.{count-cons}
+use Rattle.hall_match.proofs.HoldingLemmas.{holders-release, holders-set}
 use Rattle.hall_match.proofs.MoveLemmas.{fits_more}
-use Rattle.hall_match.proofs.ExclusionLemmas.{excluded}
 
 -- the items from the settled one on are given places, where the later ones were
 pub given_down : (s : Scene) (new : List (Option ℕ)) → Settles s new → (k : ℕ) → s.item ≤ k → (s.item < k → IsGiven s.given k) → IsGiven new k
@@ -68,3 +69,46 @@ row_open s given seen place is held e closed =
     let room = release_room s.capacities s.rows given s.item held place e in
     let same = ap (λ g. has_room s.capacities g place) is in
     false≢true (sym full ∙ same ∙ room)
+
+-- an answer that can't be some is none
+pub not_some : {X : Type 0} (answer : Option X) (P : Type 0) (Q : X → Type 0) → MatchOption answer P Q → ((x : X) → Q x → ⊥) → is_some answer ≡ true → ⊥
+not_some None P Q h n e = false≢true e
+not_some (Some x) P Q h n e = n x h
+
+pub is_nothing : {X : Type 0} (answer : Option X) → is_some answer ≡ false → answer ≡ None
+is_nothing None e = refl
+is_nothing (Some x) e = absurd (false≢true (sym e))
+
+pub is_something : {X : Type 0} (answer : Option X) (x : X) → answer ≡ Some x → IsSome answer
+is_something {X} answer x e = subst (λ (o : Option X). IsSome o) (sym e) refl
+
+-- the rows of edges between known ends have known places
+pub rows_inside : (left : ℕ) (capacities : List (Option ℕ)) (edges : List (ℕ × ℕ)) (rows : List (List ℕ)) → AreEdges left capacities edges → HaveEdges rows edges → AreInside rows (length capacities)
+rows_inside left capacities edges rows ends have item place c =
+    let both = All-contains (λ (edge : ℕ × ℕ). (edge.0 < left) × (edge.1 < length capacities)) edges (item, place) ends ((have item place).0 c) in both.1
+
+pub none_given : (n item : ℕ) → given_at (replicate n None) item ≡ None
+none_given n item = either (cases_lt item n)
+  where
+    either : (item < n) ⊎ (n ≤ item) → given_at (replicate n None) item ≡ None
+    either (inl l) = get_or-replicate {A = Option ℕ} n item None None l
+    either (inr l) = let long = length-replicate {A = Option ℕ} n None in get_or_past (replicate n None) item None (omega (arith, long, l))
+
+pub held_none : (capacities : List (Option ℕ)) (rows : List (List ℕ)) (n : ℕ) → IsHeld capacities rows (replicate n None)
+held_none capacities rows n = record {
+  neighbours = λ item place e. let free = none_given n item in absurd (cc);
+  within = λ place most e. let z = nobody place n in omega (arith, z);
+}
+  where
+    nobody : (place n : ℕ) → holders place (replicate n None) ≡ 0
+    nobody place zero = refl
+    nobody place (suc n) = let a = count-cons (is_at place) None (replicate n None) in let r = nobody place n in omega (arith, a, r)
+
+-- every item is given a place, where each was before the settled one lost its own
+pub given_all : (s : Scene) (given new : List (Option ℕ)) → Settles s new → (k : ℕ) → ((k : ℕ) → (k ≡ s.item → ⊥) → given_at s.given k ≡ given_at given k) → IsGiven given k → IsGiven new k
+given_all s given new h k stood g = either (cases_eq k s.item) (cases_lt k s.item)
+  where
+    either : (k ≡ s.item) ⊎ (k ≡ s.item → ⊥) → (k < s.item) ⊎ (s.item ≤ k) → IsGiven new k
+    either (inl e) o = (h.place, ap (given_at new) e ∙ h.here)
+    either (inr n) (inl l) = (g.0, h.before k l ∙ stood k n ∙ g.1)
+    either (inr n) (inr l) = h.after k (omega (arith, l, n)) (g.0, stood k n ∙ g.1)

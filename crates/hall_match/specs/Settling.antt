@@ -1,5 +1,5 @@
 -- An item that is given the least place that it can have, while later items are moved.
-use Rattle.std.specs.Prelude.{ℕ, ◌≡◌, ◌<◌, Bool, List, length, Option, Some, None, Contains}
+use Rattle.std.specs.Prelude.{ℕ, ◌≡◌, ◌<◌, Bool, List, length, Option, Some, Contains}
 use Rattle.hall_match.specs.Holding.{given_at, IsHeld}
 use Rattle.hall_match.specs.Rows.{row_at}
 use Rattle.hall_match.specs.Search.{Scene, IsSeen, IsClosed}

@@ -11,3 +11,5 @@ mod settling;
 mod users;
 
 pub use laws::{deficient_law, least_law};
+pub use outcome::{Matching, match_all};
+pub use std::alloc::AllocError as NoMemory;

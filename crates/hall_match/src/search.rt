@@ -74,8 +74,8 @@ fn reach_row(
         search.old.reached.items search.new.reached.items) }
     ensures outcome { let s = scene capacities.now rows.now held.now.given.items search.old.item in
         IfOk result (λ found. MatchBool found
-            (IsFound s search.new.reached.items)
-            (IsSearch s search.new.seen.items search.new.reached.items by.from)) }
+        (IsFound s search.new.reached.items)
+        (IsSearch s search.new.seen.items search.new.reached.items by.from)) }
     ensures seen { IfOk result (λ found. MatchBool found (Unit {0})
         (IsRowSeen search.new.seen.items (row_at (lists rows.now) by.item))) }
 {
@@ -110,8 +110,8 @@ fn reach_by_users(
         search.old.reached.items search.new.reached.items) }
     ensures outcome { let s = scene capacities.now rows.now held.now.given.items search.old.item in
         IfOk result (λ found. MatchBool found
-            (IsFound s search.new.reached.items)
-            (IsSearch s search.new.seen.items search.new.reached.items (at + 1))) }
+        (IsFound s search.new.reached.items)
+        (IsSearch s search.new.seen.items search.new.reached.items (at + 1))) }
 {
     let place = search.reached[at].place;
     let mut user = users.last[place as usize];
@@ -145,8 +145,8 @@ fn reach_from(
     ensures places { OnOk result (length search.new.seen.items ≡ length search.old.seen.items) }
     ensures outcome { let s = scene capacities.now rows.now held.now.given.items search.old.item in
         IfOk result (λ found. MatchBool found
-            (IsFoundFrom s search.new.reached.items place)
-            (IsClosedWith s search.old.seen.items search.new.seen.items place)) }
+        (IsFoundFrom s search.new.reached.items place)
+        (IsClosedWith s search.old.seen.items search.new.seen.items place)) }
 {
     search.reached.clear();
     visit(search, place, None)?;
@@ -187,11 +187,19 @@ pub fn find_way(
     for place in row_of(rows, item) {
         if !search.seen[*place as usize] {
             if reach_from(capacities, rows, held, users, &mut search, *place)? {
-                let Search { item: _, seen: _, reached } = search;
+                let Search {
+                    item: _,
+                    seen: _,
+                    reached,
+                } = search;
                 return Ok(Found::Way(reached));
             }
         }
     }
-    let Search { item: _, seen, reached: _ } = search;
+    let Search {
+        item: _,
+        seen,
+        reached: _,
+    } = search;
     Ok(Found::Closed(seen))
 }

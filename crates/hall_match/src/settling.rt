@@ -30,8 +30,8 @@ pub fn settle(
     ensures places { OnOk result (length held.new.used.items ≡ length held.old.used.items) }
     ensures outcome { let s = scene capacities.now rows.now held.old.given.items item in
         IfOk result (λ closed. MatchOption closed
-            (Settles s held.new.given.items)
-            (λ seen. IsClosedRow s seen.items)) }
+        (Settles s held.new.given.items)
+        (λ seen. IsClosedRow s seen.items)) }
     ensures unchanged { IfOk result (λ closed. MatchOption closed (Unit {0})
         (λ _. held.new.given.items ≡ held.old.given.items)) }
 {

@@ -1,7 +1,6 @@
-use Rattle.std.proofs.Common.{ℕ, ◌≡◌, ◌<◌, ◌≤◌, ◌-◌, length, List, Option, Some, None, Vec, Bool, arith, sym, ◌∙◌, subst, inl, inr}
+use Rattle.std.proofs.Common.{ℕ, ◌≡◌, ◌-◌, List, Option, Vec, Bool, arith, ◌∙◌, subst}
 use Rattle.std.specs.declared.alloc.Global.{Global}
 use Rattle.std.proofs.lemmas.Option.{MatchOption-at_some, MatchOption-at_none}
-use Rattle.hall_match.specs.Rows.{lists, HaveEdges}
 use Rattle.hall_match.specs.Search.{Scene, scene, IsClosedRow}
 use Rattle.hall_match.specs.Settling.{Settles}
 use Rattle.hall_match.specs.Blocking.{AreBlocked}
@@ -21,7 +20,7 @@ returns-in-Some-clause-deficient c = λ edges rows.
     let read : c.deref.result.now ≡ given = c.deref.ensures.value ∙ same in
     let marks = c.deref-in-Some.ensures.value in
     let blocked : AreBlocked given seen.items item c.in_ok-blocked_items.field-0.items = subst (λ (g : List (Option ℕ)). AreBlocked g seen.items item c.in_ok-blocked_items.field-0.items) read
-        (subst (λ (m : List Bool). AreBlocked c.deref.result.now m item c.in_ok-blocked_items.field-0.items) marks c.in_ok-blocked_items.ensures) in
+    (subst (λ (m : List Bool). AreBlocked c.deref.result.now m item c.in_ok-blocked_items.field-0.items) marks c.in_ok-blocked_items.ensures) in
     blocked_deficient s c.args.left edges seen.items c.in_ok-blocked_items.field-0.items rows old.invariant.whole (omega (arith, old.invariant.whole)) (λ k l. old.invariant.none k (omega (arith, l))) closed blocked
 
 pub loop-item-preserved : goal.loop-item-preserved

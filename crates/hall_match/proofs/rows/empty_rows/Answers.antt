@@ -1,6 +1,5 @@
-use Rattle.std.proofs.Common.{ℕ, ◌≡◌, ◌+◌, List, [], ◌∷◌, ◌++◌, length, replicate, arith, ap, ◌∙◌}
+use Rattle.std.proofs.Common.{ℕ, List, [], length, arith, ap, ◌∙◌}
 use Rattle.std.proofs.lemmas.List.{map_push, replicate_more, length-map, length-replicate}
-use Rattle.hall_match.specs.Rows.{lists}
 use Rattle.hall_match.proofs.RowLemmas.{have_none}
 use Rattle.hall_match.proofs.rows.empty_rows.Goals as goal
 

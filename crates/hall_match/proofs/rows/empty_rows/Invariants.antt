@@ -1,4 +1,4 @@
-use Rattle.std.proofs.Common.{◌≡◌, [], List, ℕ, replicate}
+use Rattle.std.proofs.Common.{◌≡◌, [], replicate}
 use Rattle.hall_match.specs.Rows.{lists}
 use Rattle.hall_match.proofs.rows.empty_rows.Given as goal
 

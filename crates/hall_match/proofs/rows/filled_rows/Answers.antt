@@ -1,6 +1,5 @@
-use Rattle.std.proofs.Common.{ℕ, ◌≡◌, ◌<◌, List, length, get_or, arith, refl, ◌∙◌}
+use Rattle.std.proofs.Common.{ℕ, ◌<◌, List, length, get_or, arith, refl, ◌∙◌}
 use Rattle.std.proofs.lemmas.List.{take_all, length-set}
-use Rattle.hall_match.specs.Rows.{lists, HaveEdges}
 use Rattle.hall_match.proofs.RowLemmas.{filled}
 use Rattle.hall_match.proofs.rows.filled_rows.Goals as goal
 

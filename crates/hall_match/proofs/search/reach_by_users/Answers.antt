@@ -1,11 +1,10 @@
-use Rattle.std.proofs.Common.{ℕ, ◌≡◌, ◌+◌, ◌<◌, length, get_or, List, Bool, false, true, Option, Some, None, arith, refl, sym, ◌∙◌, subst}
-use Rattle.std.proofs.lemmas.Bool.{MatchBool-at_true, MatchBool-at_false}
+use Rattle.std.proofs.Common.{ℕ, ◌+◌, ◌<◌, length, Option, None, arith, refl, sym, ◌∙◌, subst}
+use Rattle.std.proofs.lemmas.Bool.{MatchBool-at_false}
 use Rattle.std.proofs.lemmas.List.{get_or_read}
 use Rattle.std.proofs.lemmas.Option.{slice_get_read}
-use Rattle.hall_match.specs.declared.search.Reached.{Reached}
 use Rattle.hall_match.specs.Rows.{row_at}
 use Rattle.hall_match.specs.Chains.{IsLastUser}
-use Rattle.hall_match.specs.Search.{Scene, scene, IsSeen, IsRowSeen, IsSearch, IsFound, GoesOn}
+use Rattle.hall_match.specs.Search.{Scene, scene, IsRowSeen, IsSearch, IsFound}
 use Rattle.hall_match.proofs.ChainLemmas.{none_from}
 use Rattle.hall_match.proofs.SearchLemmas.{seen_inside, goes_same, goes_further, search_next}
 use Rattle.hall_match.proofs.WalkLemmas.{walk_starts, walk_steps, walk_ends, walk_falls, walk_at, walk_on}
@@ -50,7 +49,7 @@ loop-user-smaller c =
     let old = c.loop-user in
     let ready = c.requires.ready in
     let next = walk_on s old.search.seen.items c.index.result.now.place c.in-Some.item old.user c.index-user-in-Some.result.now c.args.users.now.last.items c.args.users.now.before.items ready.chains ready.items c.in-Some.is
-        old.invariant.walk c.index-user-in-Some.ensures in
+    old.invariant.walk c.index-user-in-Some.ensures in
     walk_falls s c.index.result.now.place c.in-Some.item old.user c.index-user-in-Some.result.now c.in-Some.is next
 
 pub loop-user-preserved : goal.loop-user-preserved
@@ -64,10 +63,10 @@ loop-user-preserved c =
     let item : ℕ = c.in-Some.item in
     let row = c.in_ok-reach_row.ensures in
     let next = walk_on s old.search.seen.items place item old.user c.index-user-in-Some.result.now c.args.users.now.last.items c.args.users.now.before.items ready.chains ready.items c.in-Some.is old.invariant.walk
-        c.index-user-in-Some.ensures in
+    c.index-user-in-Some.ensures in
     let same = old.invariant.item in
     let search = MatchBool-at_false (IsFound (scene c.args.capacities.now c.args.rows.now c.args.held.now.given.items old.search.item) new.reached.items)
-        (IsSearch (scene c.args.capacities.now c.args.rows.now c.args.held.now.given.items old.search.item) new.seen.items new.reached.items c.args.at) c.if-branch.false row.outcome in
+    (IsSearch (scene c.args.capacities.now c.args.rows.now c.args.held.now.given.items old.search.item) new.seen.items new.reached.items c.args.at) c.if-branch.false row.outcome in
     let seen = MatchBool-at_false (Unit {0}) (IsRowSeen new.seen.items (row_at s.rows item)) c.if-branch.false row.seen in
     record {
       item = c.reach_row.ensures.item ∙ same;

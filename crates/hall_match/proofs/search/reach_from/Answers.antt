@@ -1,9 +1,9 @@
-use Rattle.std.proofs.Common.{ℕ, ◌≡◌, ◌+◌, ◌<◌, length, set, List, [], ◌∷◌, ◌++◌, Bool, true, false, Option, Some, None, arith, refl, sym, ◌∙◌, ap, subst}
+use Rattle.std.proofs.Common.{ℕ, ◌≡◌, ◌+◌, ◌<◌, length, Option, Some, None, arith, refl, sym, ◌∙◌}
 use Rattle.std.specs.Prelude.{slice_get}
 use Rattle.std.proofs.lemmas.Bool.{MatchBool-at_true}
 use Rattle.hall_match.specs.declared.search.Reached.{Reached}
-use Rattle.hall_match.specs.Search.{Scene, scene, IsSeen, IsSearch, IsFound, BeginsAt}
-use Rattle.hall_match.proofs.SearchLemmas.{goes_same, start, found_begins, search_begins, search_ends, seen_here, seen_still}
+use Rattle.hall_match.specs.Search.{Scene, scene, IsSeen, IsSearch, IsFound}
+use Rattle.hall_match.proofs.SearchLemmas.{goes_same, found_begins, search_begins, search_ends, seen_here, seen_still}
 use Rattle.hall_match.proofs.search.reach_from.Goals as goal
 
 pub visit-requires : goal.visit-requires

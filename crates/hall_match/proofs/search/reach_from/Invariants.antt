@@ -1,4 +1,4 @@
-use Rattle.std.proofs.Common.{◌≡◌, ◌≤◌, ◌+◌, ◌-◌, length, not, count_by}
+use Rattle.std.proofs.Common.{◌≡◌, ◌+◌, ◌-◌, length, not, count_by}
 use Rattle.hall_match.specs.Search.{scene, IsSearch, GoesOn}
 use Rattle.hall_match.proofs.search.reach_from.Given as goal
 

@@ -1,9 +1,6 @@
-use Rattle.std.proofs.Common.{ℕ, ◌≡◌, ◌+◌, ◌<◌, Bool, true, false, length, get_or, set, ◌∷◌, ◌++◌, List, [], Some, arith, sym, ◌∙◌, inl, inr}
-use Rattle.std.proofs.lemmas.List.{get_or_read}
-use Rattle.hall_match.specs.declared.search.Reached.{Reached}
-use Rattle.hall_match.specs.Holding.{has_room}
+use Rattle.std.proofs.Common.{ℕ, ◌<◌, length, get_or, List, arith, sym, ◌∙◌}
 use Rattle.hall_match.specs.Rows.{lists, row_at}
-use Rattle.hall_match.specs.Search.{Scene, scene, IsSeen, GoesOn}
+use Rattle.hall_match.specs.Search.{Scene, scene}
 use Rattle.hall_match.proofs.SearchLemmas.{near, row_seen, row_step, goes_further, next_seen, read_false, read_true}
 use Rattle.hall_match.proofs.search.reach_row.Goals as goal
 use Rattle.hall_match.proofs.search.reach_row.Goals.{then-not-index+in_ok-visit+else-has_room, else-not-index}
@@ -43,7 +40,7 @@ returns-then-has_room c =
     let within : place < length old.search.seen.items = omega (arith, inside, c.requires.places, old.invariant.goes_on.places) in
     let new = read_false old.search.seen.items place c.index.result.now within c.index.ensures c.if-not-index.true in
     let step = row_step s old.search.seen.items c.visit.new.search.seen.items start.reached.items old.search.reached.items c.visit.new.search.reached.items c.args.by place old.invariant.search c.requires.later
-        old.invariant.goes_on.reached c.requires.from contained within new c.in_ok-visit.ensures.seen c.in_ok-visit.ensures.reached in
+    old.invariant.goes_on.reached c.requires.from contained within new c.in_ok-visit.ensures.seen c.in_ok-visit.ensures.reached in
     record {
       item = c.visit.ensures.item ∙ old.invariant.item;
       goes_on = goes_further start.seen.items old.search.seen.items c.visit.new.search.seen.items start.reached.items old.search.reached.items c.visit.new.search.reached.items old.invariant.goes_on step.goes_on;
@@ -62,27 +59,27 @@ loop-place-preserved c =
     let inside = c.requires.inside c.args.by.item place contained in
     let within : place < length old.search.seen.items = omega (arith, inside, c.requires.places, old.invariant.goes_on.places) in
     elim c.if-not-index.branch [
-      then-not-index+in_ok-visit+else-has_room w ↦
-        let new = read_false old.search.seen.items place c.index.result.now within c.index.ensures w.if-not-index.true in
-        let step = row_step s old.search.seen.items w.visit.new.search.seen.items start.reached.items old.search.reached.items w.visit.new.search.reached.items c.args.by place old.invariant.search c.requires.later
-            old.invariant.goes_on.reached c.requires.from contained within new w.in_ok-visit.ensures.seen w.in_ok-visit.ensures.reached in
-        rw w.search-is (record {
-          item = w.visit.ensures.item ∙ old.invariant.item;
-          goes_on = goes_further start.seen.items old.search.seen.items w.visit.new.search.seen.items start.reached.items old.search.reached.items w.visit.new.search.reached.items old.invariant.goes_on step.goes_on;
-          search = step.full (sym w.has_room.ensures ∙ w.if-has_room.false);
-          seen = next_seen old.search.seen.items w.visit.new.search.seen.items items old.place-index step.goes_on.seen step.here old.invariant.seen;
-        })
-    | else-not-index w ↦
-        let here = read_true old.search.seen.items place c.index.result.now within c.index.ensures w.if-not-index.false in
-        rw w.search-is (record {
-          item = old.invariant.item;
-          goes_on = old.invariant.goes_on;
-          search = old.invariant.search;
-          seen = next_seen old.search.seen.items old.search.seen.items items old.place-index (λ p e. e) here old.invariant.seen;
-        })
+      | then-not-index+in_ok-visit+else-has_room w ↦
+          let new = read_false old.search.seen.items place c.index.result.now within c.index.ensures w.if-not-index.true in
+          let step = row_step s old.search.seen.items w.visit.new.search.seen.items start.reached.items old.search.reached.items w.visit.new.search.reached.items c.args.by place old.invariant.search c.requires.later
+          old.invariant.goes_on.reached c.requires.from contained within new w.in_ok-visit.ensures.seen w.in_ok-visit.ensures.reached in
+          rw w.search-is (record {
+            item = w.visit.ensures.item ∙ old.invariant.item;
+            goes_on = goes_further start.seen.items old.search.seen.items w.visit.new.search.seen.items start.reached.items old.search.reached.items w.visit.new.search.reached.items old.invariant.goes_on step.goes_on;
+            search = step.full (sym w.has_room.ensures ∙ w.if-has_room.false);
+            seen = next_seen old.search.seen.items w.visit.new.search.seen.items items old.place-index step.goes_on.seen step.here old.invariant.seen;
+          })
+      | else-not-index w ↦
+          let here = read_true old.search.seen.items place c.index.result.now within c.index.ensures w.if-not-index.false in
+          rw w.search-is (record {
+            item = old.invariant.item;
+            goes_on = old.invariant.goes_on;
+            search = old.invariant.search;
+            seen = next_seen old.search.seen.items old.search.seen.items items old.place-index (λ p e. e) here old.invariant.seen;
+          })
     ]
 
 pub returns-clause-seen : goal.returns-clause-seen
 returns-clause-seen c =
     row_seen c.loop-place.search.seen.items (row_at (lists c.args.rows.now) c.args.by.item) c.row_of-place-items.result.now c.row_of-place-items.ensures
-        (λ k l. c.loop-place.invariant.seen k (omega (arith, l)))
+    (λ k l. c.loop-place.invariant.seen k (omega (arith, l)))

@@ -1,4 +1,4 @@
-use Rattle.std.proofs.Common.{ℕ, ◌≡◌, ◌<◌, length, get_or}
+use Rattle.std.proofs.Common.{ℕ, ◌≡◌, ◌<◌, get_or}
 use Rattle.hall_match.specs.Search.{scene, IsSeen, IsSearch, GoesOn}
 use Rattle.hall_match.proofs.search.reach_row.Given as goal
 

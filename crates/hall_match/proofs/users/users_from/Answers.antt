@@ -1,7 +1,6 @@
-use Rattle.std.proofs.Common.{ℕ, ◌≡◌, ◌<◌, ◌≤◌, ◌∙◌, sym, length, get_or, set, replicate, Option, Some, None, arith, rules}
+use Rattle.std.proofs.Common.{ℕ, ◌≡◌, ◌<◌, ◌≤◌, ◌∙◌, length, replicate, Option, Some, None, arith, rules}
 use Rattle.std.proofs.lemmas.List.{length-replicate, length-set, get_or_read}
 use Rattle.hall_match.specs.Holding.{given_at}
-use Rattle.hall_match.specs.Chains.{AreChains}
 use Rattle.hall_match.proofs.ChainLemmas.{none_from, chains_none, chains_free, chains_used}
 use Rattle.hall_match.proofs.users.users_from.Goals as goal
 use Rattle.hall_match.proofs.users.users_from.Goals.{in-Some, in_default}
@@ -21,23 +20,23 @@ loop-item-preserved c =
     let old = c.loop-item in
     let places : ℕ = c.args.places in
     elim c.match-given-item.branch [
-      in-Some w ↦
-        let place : ℕ = w.in-Some.place in
-        let inside : place < length old.last.items = let p = c.requires.inside old.item place w.in-Some.is in omega (arith, p, old.invariant.places) in
-        let room : old.item < length old.before.items = omega (arith, old.invariant.items) in
-        let up : c.args.low ≤ old.item = omega arith in
-        let read = get_or_read old.last.items place w.index.result.now inside w.index.ensures None in
-        rw (w.last-is, w.before-is) (record {
-          places = length-set old.last.items place (Some old.item) ∙ old.invariant.places;
-          items = length-set old.before.items old.item w.index.result.now ∙ old.invariant.items;
-          chains = rw read (chains_used c.args.given.now c.args.low old.item place old.last.items old.before.items up w.in-Some.is inside room old.invariant.chains);
-        })
-    | in_default w ↦
-        rw (w.last-is, w.before-is) (record {
-          places = old.invariant.places;
-          items = old.invariant.items;
-          chains = chains_free c.args.given.now c.args.low old.item old.last.items old.before.items (none_from (given_at c.args.given.now old.item) w.in_default.not-Some) old.invariant.chains;
-        })
+      | in-Some w ↦
+          let place : ℕ = w.in-Some.place in
+          let inside : place < length old.last.items = let p = c.requires.inside old.item place w.in-Some.is in omega (arith, p, old.invariant.places) in
+          let room : old.item < length old.before.items = omega (arith, old.invariant.items) in
+          let up : c.args.low ≤ old.item = omega arith in
+          let read = get_or_read old.last.items place w.index.result.now inside w.index.ensures None in
+          rw (w.last-is, w.before-is) (record {
+            places = length-set old.last.items place (Some old.item) ∙ old.invariant.places;
+            items = length-set old.before.items old.item w.index.result.now ∙ old.invariant.items;
+            chains = rw read (chains_used c.args.given.now c.args.low old.item place old.last.items old.before.items up w.in-Some.is inside room old.invariant.chains);
+          })
+      | in_default w ↦
+          rw (w.last-is, w.before-is) (record {
+            places = old.invariant.places;
+            items = old.invariant.items;
+            chains = chains_free c.args.given.now c.args.low old.item old.last.items old.before.items (none_from (given_at c.args.given.now old.item) w.in_default.not-Some) old.invariant.chains;
+          })
     ]
 
 pub returns-clause-chains : goal.returns-clause-chains

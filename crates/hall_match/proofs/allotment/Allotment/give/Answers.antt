@@ -1,6 +1,5 @@
-use Rattle.std.proofs.Common.{ℕ, ◌≡◌, ◌<◌, ◌+◌, length, get_or, Some, arith, ◌∙◌}
+use Rattle.std.proofs.Common.{ℕ, ◌+◌, length, Some, arith}
 use Rattle.std.proofs.lemmas.List.{length-set, get_or_read}
-use Rattle.hall_match.specs.Holding.{given_at, holders}
 use Rattle.hall_match.proofs.HoldingLemmas.{holders-below, counted_give, inside_give}
 use Rattle.hall_match.proofs.allotment.Allotment.give.Goals as goal
 

@@ -1,6 +1,6 @@
-use Rattle.std.proofs.Common.{ℕ, ◌≡◌, ◌<◌, ◌-◌, Option, Some, None, length, get_or, arith, ◌∙◌, sym}
+use Rattle.std.proofs.Common.{ℕ, ◌≡◌, ◌-◌, Option, Some, None, length, arith, ◌∙◌, sym}
 use Rattle.std.proofs.lemmas.List.{length-set, get_or_read}
-use Rattle.hall_match.specs.Holding.{given_at, holders}
+use Rattle.hall_match.specs.Holding.{given_at}
 use Rattle.hall_match.proofs.HoldingLemmas.{holders-release, counted_release, inside_release}
 use Rattle.hall_match.proofs.allotment.Allotment.release.Goals as goal
 
