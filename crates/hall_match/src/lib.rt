@@ -13,3 +13,6 @@ mod users;
 pub use laws::{deficient_law, least_law};
 pub use outcome::{Matching, match_all};
 pub use std::alloc::AllocError as NoMemory;
+
+#[cfg(test)]
+mod tests;
