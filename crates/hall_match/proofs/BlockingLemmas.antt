@@ -3,11 +3,11 @@ use Rattle.std.proofs.Common.{ℕ, ◌≡◌, ◌<◌, ◌≤◌, ◌+◌, List,
 use Rattle.std.specs.Prelude.{◌⊎◌, ◌↔◌, Contains, All}
 use Rattle.std.specs.List.Sorted.{IsStrictlyIncreasing}
 use Rattle.std.proofs.lemmas.Bool.{cases_eq, cases_lt, or_cases, or_parts, eqb-true, eqb-false, lt-ltb, le-ltb, false≢true}
-use Rattle.std.proofs.lemmas.List.{length_push, get_or_append_left, get_or_push, take_all}
+use Rattle.std.proofs.lemmas.List.{length_push, get_or_append_left, get_or_push}
 use Rattle.std.proofs.lemmas.List.Elements.{All-push, All-weaker, Contains-append_left, Contains-push, Contains-push_cases}
 use Rattle.std.proofs.lemmas.List.Sums.{count_by_more_yes, count_by_more_no}
 use Rattle.hall_match.specs.Holding.{given_at}
-use Rattle.hall_match.specs.Blocking.{is_seen_at, is_blocked, AreBlocked}
+use Rattle.hall_match.specs.Blocking.{is_seen_at, is_blocked}
 
 -- the blocked items before a number
 pub record BlockedTo (given : List (Option ℕ)) (seen : List Bool) (item i : ℕ) (items : List ℕ) : Type 0 where
@@ -95,14 +95,3 @@ module _ (given : List (Option ℕ)) (seen : List Bool) (item i : ℕ) (items : 
       back : (x : ℕ) → (x < i + 1) × (is_blocked given seen item x ≡ true) → (x ≡ i) ⊎ (x ≡ i → ⊥) → Contains items x
       back x b (inl e) = absurd (false≢true (sym here ∙ ap (is_blocked given seen item) (sym e) ∙ b.1))
       back x b (inr n) = let l = b.0 in (h.exact x).1 (omega (arith, n, l), b.1)
-
-pub blocked_all : (given : List (Option ℕ)) (seen : List Bool) (item i : ℕ) (items : List ℕ) → i ≡ length given → item < length given → BlockedTo given seen item i items → AreBlocked given seen item items
-blocked_all given seen item i items e inside h = record {
-  rising = h.rising;
-  below = All-weaker (λ x. x < i) (λ x. x < length given) (λ x l. omega (arith, l, e)) items h.below;
-  exact = λ x. (λ c. let b = (h.exact x).0 c in let l = b.0 in (omega (arith, l, e), b.1), λ b. let l = b.0 in (h.exact x).1 (omega (arith, l, e), b.1));
-  count =
-      (let all = ap (count_by (is_seen_at seen)) (take_all i given (omega (arith, e))) in
-      let one = ap (λ t. cond {A = ℕ} t 1 0) (lt-ltb item i (omega (arith, e, inside))) in
-      let b = h.count in omega (arith, all, one, b));
-}

@@ -1,5 +1,5 @@
 -- Items that are moved along a way, from its end to where it begins.
-use Rattle.std.proofs.Common.{ℕ, ◌≡◌, ◌<◌, ◌≤◌, ◌+◌, ◌-◌, List, length, set, arith, sym, ◌∙◌, ap, refl, subst, true, Option, Some, None, inl, inr}
+use Rattle.std.proofs.Common.{ℕ, ◌≡◌, ◌<◌, ◌≤◌, ◌+◌, List, length, set, arith, sym, ◌∙◌, ap, refl, subst, true, Option, Some, None, inl, inr}
 use Rattle.std.specs.Prelude.{◌⊎◌, slice_get, Contains}
 use Rattle.std.proofs.lemmas.Bool.{cases_eq, ltb-true, lt-ltb}
 use Rattle.std.proofs.lemmas.Option.{slice_get_within}
@@ -9,7 +9,7 @@ use Rattle.hall_match.specs.declared.search.Move.{Move}
 use Rattle.hall_match.specs.Holding.{given_at, holders, has_more, has_room, IsHeld}
 use Rattle.hall_match.specs.Matchings.{capacity_at}
 use Rattle.hall_match.specs.Rows.{row_at, AreInside}
-use Rattle.hall_match.specs.Search.{Scene, IsTrail, IsWay, IsFound, IsLeastWay}
+use Rattle.hall_match.specs.Search.{Scene, IsTrail, IsWay, IsLeastWay}
 use Rattle.hall_match.specs.Settling.{IsGiven, Settles}
 use Rattle.hall_match.proofs.HoldingLemmas.{one_at, one_same, one_other, holders-set, given_inside}
 
@@ -78,22 +78,6 @@ some_same a b e = cc
 abbrev pub moves_left : Option Move → ℕ
 moves_left None = 0
 moves_left (Some move) = move.from + 1
-
-pub move_starts : (s : Scene) (way : List Reached) (here : Reached) → IsHeld s.capacities s.rows s.given → given_at s.given s.item ≡ None → IsFound s way → slice_get way (length way - 1) ≡ Some here → Moving s way s.given here
-move_starts s way here held free f e = record {
-  whole = refl;
-  held = held;
-  free = free;
-  at = length way - 1;
-  is_here = e;
-  room = subst (λ (r : Reached). has_room s.capacities s.given r.place ≡ true) (some_same f.last here (sym f.is_last ∙ e)) f.room;
-  before = λ item l. refl;
-  after = λ item l g. g;
-  early = λ k r item l e g. g;
-}
-
-pub way_long : (s : Scene) (way : List Reached) → IsLeastWay s way → 0 < length way
-way_long s way f = slice_get_within way 0 f.first f.is_first
 
 -- one move, by the way that its place was reached
 module _ (s : Scene) (way : List Reached) (now : List (Option ℕ)) (here : Reached) (move : Move) (t : IsTrail s way) (m : Moving s way now here) (by : here.by ≡ Some move) where

@@ -1,10 +1,10 @@
 -- The steps of a search: a place that is seen for the first time, and one that is gone through.
-use Rattle.std.proofs.Common.{ℕ, ◌≡◌, ◌<◌, ◌≤◌, ◌+◌, ◌-◌, List, [], ◌∷◌, ◌++◌, length, get_or, set, replicate, arith, zero, suc, sym, ◌∙◌, ap, refl, subst, Bool, true, false, not, cond, Option, Some, None, count_by, inl, inr}
+use Rattle.std.proofs.Common.{ℕ, ◌≡◌, ◌<◌, ◌≤◌, ◌+◌, ◌-◌, List, [], ◌∷◌, ◌++◌, length, get_or, set, arith, zero, suc, sym, ◌∙◌, ap, refl, subst, Bool, true, false, not, cond, Option, Some, None, count_by, inl, inr}
 use Rattle.std.specs.Prelude.{◌⊎◌, slice_get, Contains}
 use Rattle.std.specs.List.Sorted.{IsNonDecreasing}
 use Rattle.std.proofs.lemmas.Bool.{cases_eq, cases_lt, false≢true}
 use Rattle.std.proofs.lemmas.Option.{slice_get_within}
-use Rattle.std.proofs.lemmas.List.{length-set, length_push, get_or-set_same, get_or-set_other, get_or_default, get_or_read, get_or_past, get_or-replicate, length-replicate}
+use Rattle.std.proofs.lemmas.List.{length-set, length_push, get_or-set_same, get_or-set_other, get_or_default, get_or_read, get_or_past}
 use Rattle.std.proofs.lemmas.List.Elements.{Contains-get_or}
 use Rattle.std.proofs.lemmas.List.Sums.{sum_by-set}
 use Rattle.hall_match.specs.declared.search.Reached.{Reached}
@@ -320,20 +320,6 @@ row_step s seen new before reached after by place h later up user c inside unsee
       full = λ full. row_push s seen reached by place h later at c unseen inside full;
       found = λ room. row_found s seen reached by place h later at c unseen room;
     })
-
--- nothing is seen at first
-pub closed_none : (s : Scene) (n : ℕ) → IsClosed s (replicate n false)
-closed_none s n = record {
-  reachable = λ place e. absurd (unseen place e);
-  full = λ place e. absurd (unseen place e);
-  shut = λ place e. absurd (unseen place e);
-}
-  where
-    unseen : (place : ℕ) → IsSeen (replicate n false) place → ⊥
-    unseen place e =
-        let inside = seen_inside (replicate n false) place e in
-        let long = length-replicate {A = Bool} n false in
-        false≢true (sym (get_or-replicate {A = Bool} n place false false (omega (arith, inside, long))) ∙ e)
 
 -- the lesser places of a row stand before
 pub lesser_seen : (seen : List Bool) (row : List ℕ) (i : ℕ) → IsNonDecreasing row → i < length row → ((k : ℕ) → k < i → IsSeen seen (get_or row k 0)) → (place : ℕ) → Contains row place → place < get_or row i 0 → IsSeen seen place

@@ -1,16 +1,15 @@
 -- What is left of an allotment once an item is settled.
-use Rattle.std.proofs.Common.{ℕ, ◌≡◌, ◌<◌, ◌≤◌, List, length, set, replicate, arith, zero, suc, sym, ◌∙◌, ap, refl, subst, Bool, true, false, Option, Some, None, inl, inr}
+use Rattle.std.proofs.Common.{ℕ, ◌≡◌, ◌<◌, ◌≤◌, List, length, set, arith, sym, ◌∙◌, ap, refl, subst, Bool, true, false, Option, Some, None, inl, inr}
 use Rattle.std.specs.Prelude.{◌⊎◌, Contains, MatchOption, IsSome}
 use Rattle.std.specs.Option.{is_some}
 use Rattle.std.proofs.lemmas.Bool.{cases_eq, cases_lt, false≢true}
-use Rattle.std.proofs.lemmas.List.{length-set, get_or-set_same, get_or-set_other, get_or_past, get_or-replicate, length-replicate, set_past}
+use Rattle.std.proofs.lemmas.List.{length-set, get_or-set_same, get_or-set_other, get_or_past, set_past}
 use Rattle.std.proofs.lemmas.List.Elements.{All-contains}
-use Rattle.hall_match.specs.Holding.{is_at, given_at, holders, has_room, IsHeld}
+use Rattle.hall_match.specs.Holding.{given_at, holders, has_room, IsHeld}
 use Rattle.hall_match.specs.Matchings.{AreEdges, capacity_at}
 use Rattle.hall_match.specs.Rows.{row_at, HaveEdges, AreInside}
 use Rattle.hall_match.specs.Search.{Scene, IsClosedRow}
 use Rattle.hall_match.specs.Settling.{IsGiven, Settles}
-use Rattle.hall_match.proofs.CountLemmas.{count-cons}
 use Rattle.hall_match.proofs.HoldingLemmas.{holders-release, holders-set}
 use Rattle.hall_match.proofs.MoveLemmas.{fits_more}
 
@@ -86,23 +85,6 @@ is_something {X} answer x e = subst (λ (o : Option X). IsSome o) (sym e) refl
 pub rows_inside : (left : ℕ) (capacities : List (Option ℕ)) (edges : List (ℕ × ℕ)) (rows : List (List ℕ)) → AreEdges left capacities edges → HaveEdges rows edges → AreInside rows (length capacities)
 rows_inside left capacities edges rows ends have item place c =
     let both = All-contains (λ (edge : ℕ × ℕ). (edge.0 < left) × (edge.1 < length capacities)) edges (item, place) ends ((have item place).0 c) in both.1
-
-pub none_given : (n item : ℕ) → given_at (replicate n None) item ≡ None
-none_given n item = either (cases_lt item n)
-  where
-    either : (item < n) ⊎ (n ≤ item) → given_at (replicate n None) item ≡ None
-    either (inl l) = get_or-replicate {A = Option ℕ} n item None None l
-    either (inr l) = let long = length-replicate {A = Option ℕ} n None in get_or_past (replicate n None) item None (omega (arith, long, l))
-
-pub held_none : (capacities : List (Option ℕ)) (rows : List (List ℕ)) (n : ℕ) → IsHeld capacities rows (replicate n None)
-held_none capacities rows n = record {
-  neighbours = λ item place e. let free = none_given n item in absurd (cc);
-  within = λ place most e. let z = nobody place n in omega (arith, z);
-}
-  where
-    nobody : (place n : ℕ) → holders place (replicate n None) ≡ 0
-    nobody place zero = refl
-    nobody place (suc n) = let a = count-cons (is_at place) None (replicate n None) in let r = nobody place n in omega (arith, a, r)
 
 -- every item is given a place, where each was before the settled one lost its own
 pub given_all : (s : Scene) (given new : List (Option ℕ)) → Settles s new → (k : ℕ) → ((k : ℕ) → (k ≡ s.item → ⊥) → given_at s.given k ≡ given_at given k) → IsGiven given k → IsGiven new k
