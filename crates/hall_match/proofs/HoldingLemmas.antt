@@ -16,43 +16,56 @@ one_same place = cond-true {A = ℕ} (eqb place place) 1 0 (eq-eqb place place r
 pub one_other : (place other : ℕ) → (other ≡ place → ⊥) → one_at place (Some other) ≡ 0
 one_other place other n = cond-false {A = ℕ} (eqb other place) 1 0 (ne_eqb other place n)
 
-pub holders-set : (given : List (Option ℕ)) (item place : ℕ) (new : Option ℕ) → item < length given → holders place (set given item new) + one_at place (given_at given item) ≡ holders place given + one_at place new
-holders-set given item place new l = sum_by-set (λ g. cond (is_at place g) 1 0) given item new None l
+pub holders-set : (given : List (Option ℕ)) (item place : ℕ) (new : Option ℕ) → item < length given
+    → holders place (set given item new) + one_at place (given_at given item) ≡ holders place given
+    + one_at place new
+holders-set given item place new l = sum_by-set (λ g. cond (is_at place g) 1 0) given item new None
+    l
 
 -- an item that is given a place is one of the items
-pub given_inside : (given : List (Option ℕ)) (item place : ℕ) → given_at given item ≡ Some place → item < length given
+pub given_inside : (given : List (Option ℕ)) (item place : ℕ) → given_at given item ≡ Some place
+    → item < length given
 given_inside given item place e = either (cases_lt item (length given))
   where
     either : (item < length given) ⊎ (length given ≤ item) → item < length given
     either (inl l) = l
-    either (inr l) = let past : given_at given item ≡ None = get_or_past given item None l in absurd (cc)
+    either (inr l) = let past : given_at given item ≡ None = get_or_past given item None l in absurd
+        (cc)
 
-pub holders-give : (given : List (Option ℕ)) (item place : ℕ) → item < length given → given_at given item ≡ None → holders place (set given item (Some place)) ≡ holders place given + 1
+pub holders-give : (given : List (Option ℕ)) (item place : ℕ) → item < length given
+    → given_at given item ≡ None
+    → holders place (set given item (Some place)) ≡ holders place given + 1
 holders-give given item place l e =
     let a = holders-set given item place (Some place) l in
     let b = ap (one_at place) e in
     let d = one_same place in omega (arith, a, b, d)
 
-pub holders-give_other : (given : List (Option ℕ)) (item place other : ℕ) → item < length given → given_at given item ≡ None → (place ≡ other → ⊥) → holders other (set given item (Some place)) ≡ holders other given
+pub holders-give_other : (given : List (Option ℕ)) (item place other : ℕ) → item < length given
+    → given_at given item ≡ None → (place ≡ other → ⊥)
+    → holders other (set given item (Some place)) ≡ holders other given
 holders-give_other given item place other l e n =
     let a = holders-set given item other (Some place) l in
     let b = ap (one_at other) e in
     let d = one_other other place n in omega (arith, a, b, d)
 
-pub holders-release : (given : List (Option ℕ)) (item place : ℕ) → given_at given item ≡ Some place → holders place (set given item None) + 1 ≡ holders place given
+pub holders-release : (given : List (Option ℕ)) (item place : ℕ) → given_at given item ≡ Some place
+    → holders place (set given item None) + 1 ≡ holders place given
 holders-release given item place e =
     let a = holders-set given item place None (given_inside given item place e) in
     let b = ap (one_at place) e in
     let d = one_same place in omega (arith, a, b, d)
 
-pub holders-release_other : (given : List (Option ℕ)) (item place other : ℕ) → given_at given item ≡ Some place → (place ≡ other → ⊥) → holders other (set given item None) ≡ holders other given
+pub holders-release_other : (given : List (Option ℕ)) (item place other : ℕ)
+    → given_at given item ≡ Some place → (place ≡ other → ⊥)
+    → holders other (set given item None) ≡ holders other given
 holders-release_other given item place other e n =
     let a = holders-set given item other None (given_inside given item place e) in
     let b = ap (one_at other) e in
     let d = one_other other place n in omega (arith, a, b, d)
 
 -- where one item has no place, a place has fewer holders than there are items
-pub holders-below : (given : List (Option ℕ)) (item place : ℕ) → item < length given → given_at given item ≡ None → holders place given < length given
+pub holders-below : (given : List (Option ℕ)) (item place : ℕ) → item < length given
+    → given_at given item ≡ None → holders place given < length given
 holders-below given item place l e =
     let a = holders-give given item place l e in
     let b = count_by-le-length (is_at place) (set given item (Some place)) in
@@ -62,54 +75,73 @@ holders-below given item place l e =
 abbrev pub Counted : List (Option ℕ) → List ℕ → Type 0
 Counted given used = (place : ℕ) → place < length used → get_or used place 0 ≡ holders place given
 
-pub counted_give : (given : List (Option ℕ)) (used : List ℕ) (item place was : ℕ) → item < length given → given_at given item ≡ None → place < length used → was ≡ get_or used place was → Counted given used
+pub counted_give : (given : List (Option ℕ)) (used : List ℕ) (item place was : ℕ)
+    → item < length given → given_at given item ≡ None → place < length used
+    → was ≡ get_or used place was → Counted given used
     → Counted (set given item (Some place)) (set used place (was + 1))
 counted_give given used item place was l e inside reads counts q below = either (cases_eq q place)
   where
     here : was ≡ holders place given
     here = get_or_read used place was inside reads 0 ∙ counts place inside
 
-    either : (q ≡ place) ⊎ (q ≡ place → ⊥) → get_or (set used place (was + 1)) q 0 ≡ holders q (set given item (Some place))
-    either (inl s) = rw (s, get_or-set_same used place (was + 1) 0 inside, here) (sym (holders-give given item place l e))
+    either : (q ≡ place) ⊎ (q ≡ place → ⊥)
+        → get_or (set used place (was + 1)) q 0 ≡ holders q (set given item (Some place))
+    either (inl s) = rw (s, get_or-set_same used place (was + 1) 0 inside, here)
+        (sym (holders-give given item place l e))
     either (inr n) =
         let long = length-set used place (was + 1) in
-        rw (get_or-set_other used place q (was + 1) 0 n) (counts q (omega (arith, long, below)) ∙ sym (holders-give_other given item place q l e (λ d. n (sym d))))
+        rw (get_or-set_other used place q (was + 1) 0 n) (counts q (omega (arith, long, below)) ∙
+        sym (holders-give_other given item place q l e (λ d. n (sym d))))
 
-pub counted_release : (given : List (Option ℕ)) (used : List ℕ) (item place was : ℕ) → given_at given item ≡ Some place → place < length used → was ≡ get_or used place was → Counted given used
+pub counted_release : (given : List (Option ℕ)) (used : List ℕ) (item place was : ℕ)
+    → given_at given item ≡ Some place → place < length used → was ≡ get_or used place was
+    → Counted given used
     → Counted (set given item None) (set used place (was - 1))
 counted_release given used item place was e inside reads counts q below = either (cases_eq q place)
   where
     here : was ≡ holders place given
     here = get_or_read used place was inside reads 0 ∙ counts place inside
 
-    either : (q ≡ place) ⊎ (q ≡ place → ⊥) → get_or (set used place (was - 1)) q 0 ≡ holders q (set given item None)
-    either (inl s) = rw (s, get_or-set_same used place (was - 1) 0 inside) (let a = holders-release given item place e in let b = here in omega (arith, a, b))
+    either : (q ≡ place) ⊎ (q ≡ place → ⊥)
+        → get_or (set used place (was - 1)) q 0 ≡ holders q (set given item None)
+    either (inl s) = rw (s, get_or-set_same used place (was - 1) 0 inside)
+        (let a = holders-release given item place e in let b = here in omega (arith, a, b))
     either (inr n) =
         let long = length-set used place (was - 1) in
-        rw (get_or-set_other used place q (was - 1) 0 n) (counts q (omega (arith, long, below)) ∙ sym (holders-release_other given item place q e (λ d. n (sym d))))
+        rw (get_or-set_other used place q (was - 1) 0 n) (counts q (omega (arith, long, below)) ∙
+        sym (holders-release_other given item place q e (λ d. n (sym d))))
 
 -- every place that an item is given is one of the places
 abbrev pub Inside : List (Option ℕ) → ℕ → Type 0
 Inside given places = (item place : ℕ) → given_at given item ≡ Some place → place < places
 
-pub inside_give : (given : List (Option ℕ)) (places item place : ℕ) → place < places → Inside given places → Inside (set given item (Some place)) places
-inside_give given places item place below h i p e = either (cases_eq i item) (cases_lt item (length given))
+pub inside_give : (given : List (Option ℕ)) (places item place : ℕ) → place < places
+    → Inside given places → Inside (set given item (Some place)) places
+inside_give given places item place below h i p e = either (cases_eq i item)
+    (cases_lt item (length given))
   where
-    either : (i ≡ item) ⊎ (i ≡ item → ⊥) → (item < length given) ⊎ (length given ≤ item) → p < places
+    either : (i ≡ item) ⊎ (i ≡ item → ⊥) → (item < length given) ⊎ (length given ≤ item)
+        → p < places
     either (inr n) o = h i p (sym (get_or-set_other given item i (Some place) None n) ∙ e)
     either (inl s) (inl l) =
-        let now : given_at (set given item (Some place)) item ≡ Some place = get_or-set_same given item (Some place) None l in
+        let now : given_at (set given item (Some place)) item ≡ Some place = get_or-set_same given
+        item (Some place) None l in
         let same : p ≡ place = cc in omega (arith, same, below)
     either (inl s) (inr l) =
         let long = length-set given item (Some place) in
-        let none' : given_at (set given item (Some place)) i ≡ None = get_or_past (set given item (Some place)) i None (omega (arith, long, s, l)) in absurd (cc)
+        let none' : given_at (set given item (Some place)) i ≡ None = get_or_past
+        (set given item (Some place)) i None (omega (arith, long, s, l)) in absurd (cc)
 
-pub inside_release : (given : List (Option ℕ)) (places item : ℕ) → Inside given places → Inside (set given item None) places
+pub inside_release : (given : List (Option ℕ)) (places item : ℕ) → Inside given places
+    → Inside (set given item None) places
 inside_release given places item h i p e = either (cases_eq i item) (cases_lt item (length given))
   where
-    either : (i ≡ item) ⊎ (i ≡ item → ⊥) → (item < length given) ⊎ (length given ≤ item) → p < places
+    either : (i ≡ item) ⊎ (i ≡ item → ⊥) → (item < length given) ⊎ (length given ≤ item)
+        → p < places
     either (inr n) o = h i p (sym (get_or-set_other given item i None None n) ∙ e)
-    either (inl s) (inl l) = let now : given_at (set given item None) item ≡ None = get_or-set_same given item None None l in absurd (cc)
+    either (inl s) (inl l) = let now : given_at (set given item None) item ≡ None = get_or-set_same
+        given item None None l in absurd (cc)
     either (inl s) (inr l) =
         let long = length-set given item None in
-        let none' : given_at (set given item None) i ≡ None = get_or_past (set given item None) i None (omega (arith, long, s, l)) in absurd (cc)
+        let none' : given_at (set given item None) i ≡ None = get_or_past (set given item None) i
+        None (omega (arith, long, s, l)) in absurd (cc)

@@ -26,6 +26,9 @@ abbrev pub has_room : List (Option ℕ) → List (Option ℕ) → ℕ → Bool
 has_room capacities given place = has_more (capacity_at capacities place) (holders place given)
 
 -- items are given neighbours, and no limited place more often than its capacity
-pub record IsHeld (capacities : List (Option ℕ)) (rows : List (List ℕ)) (given : List (Option ℕ)) : Type 0 where
-  pub neighbours : (item place : ℕ) → given_at given item ≡ Some place → Contains (row_at rows item) place
-  pub within : (place most : ℕ) → capacity_at capacities place ≡ Some most → holders place given ≤ most
+pub record IsHeld (capacities : List (Option ℕ)) (rows : List (List ℕ))
+    (given : List (Option ℕ)) : Type 0 where
+  pub neighbours : (item place : ℕ) → given_at given item ≡ Some place
+      → Contains (row_at rows item) place
+  pub within : (place most : ℕ) → capacity_at capacities place ≡ Some most
+      → holders place given ≤ most

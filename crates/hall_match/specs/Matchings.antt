@@ -15,7 +15,8 @@ abbrev pub uses : ℕ → List ℕ → ℕ
 uses place list = count_by (λ given. given == place) list
 
 -- the list has a place for each item, a neighbour of it, and no limited place more often than its capacity
-pub record IsMatching (left : ℕ) (capacities : List (Option ℕ)) (edges : List (ℕ × ℕ)) (list : List ℕ) : Type 0 where
+pub record IsMatching (left : ℕ) (capacities : List (Option ℕ)) (edges : List (ℕ × ℕ))
+    (list : List ℕ) : Type 0 where
   pub whole : length list ≡ left
   pub neighbours : (item : ℕ) → item < left → Contains edges (item, slice_index list item)
   pub within : (place most : ℕ) → capacity_at capacities place ≡ Some most → uses place list ≤ most
@@ -28,9 +29,11 @@ pub record IsBefore (first second : List ℕ) : Type 0 where
   pub less : slice_index first item < slice_index second item
 
 -- a matching that is before every other one
-pub record IsLeast (left : ℕ) (capacities : List (Option ℕ)) (edges : List (ℕ × ℕ)) (list : List ℕ) : Type 0 where
+pub record IsLeast (left : ℕ) (capacities : List (Option ℕ)) (edges : List (ℕ × ℕ))
+    (list : List ℕ) : Type 0 where
   pub matching : IsMatching left capacities edges list
-  pub least : (other : List ℕ) → IsMatching left capacities edges other → (other ≡ list) ⊎ IsBefore list other
+  pub least : (other : List ℕ) → IsMatching left capacities edges other
+      → (other ≡ list) ⊎ IsBefore list other
 
 -- some item of the list has an edge to the place
 abbrev pub IsNeighbour : List (ℕ × ℕ) → List ℕ → ℕ → Type 0
@@ -40,12 +43,14 @@ IsNeighbour edges items place = (item : ℕ) × Contains items item × Contains 
 abbrev pub capacity_of : List (Option ℕ) → List ℕ → ℕ
 capacity_of capacities places = sum_by (λ place. unwrap_or (capacity_at capacities place) 0) places
 
--- rising items whose neighbours, each counted once and none without a limit, have together less capacity than they are
-pub record IsDeficient (left : ℕ) (capacities : List (Option ℕ)) (edges : List (ℕ × ℕ)) (items : List ℕ) : Type 0 where
+-- rising items that are more than their neighbours' capacities together, none of them unlimited
+pub record IsDeficient (left : ℕ) (capacities : List (Option ℕ)) (edges : List (ℕ × ℕ))
+    (items : List ℕ) : Type 0 where
   pub rising : IsStrictlyIncreasing items
   pub below : All (λ item. item < left) items
   pub places : List ℕ
   pub once : IsStrictlyIncreasing places
   pub neighbours : (place : ℕ) → Contains places place ↔ IsNeighbour edges items place
-  pub limited : (place : ℕ) → Contains places place → (most : ℕ) × (capacity_at capacities place ≡ Some most)
+  pub limited : (place : ℕ) → Contains places place
+      → (most : ℕ) × (capacity_at capacities place ≡ Some most)
   pub fewer : capacity_of capacities places < length items

@@ -13,7 +13,8 @@ row_at rows item = slice_index_or rows item []
 
 -- the row of each item has its neighbours and no others
 abbrev pub HaveEdges : List (List ℕ) → List (ℕ × ℕ) → Type 0
-HaveEdges rows edges = (item place : ℕ) → Contains (row_at rows item) place ↔ Contains edges (item, place)
+HaveEdges rows edges = (item place : ℕ)
+    → Contains (row_at rows item) place ↔ Contains edges (item, place)
 
 -- each row rises
 abbrev pub AreRising : List (List ℕ) → Type 0
@@ -21,7 +22,8 @@ AreRising rows = (item : ℕ) → IsNonDecreasing (row_at rows item)
 
 -- the rows have the same places
 abbrev pub HaveSame : List (List ℕ) → List (List ℕ) → Type 0
-HaveSame old new = (item place : ℕ) → Contains (row_at new item) place ↔ Contains (row_at old item) place
+HaveSame old new = (item place : ℕ)
+    → Contains (row_at new item) place ↔ Contains (row_at old item) place
 
 -- the places of each row are below the number
 abbrev pub AreInside : List (List ℕ) → ℕ → Type 0

@@ -10,7 +10,7 @@ use Rattle.hall_match.specs.Holding.{given_at, has_room}
 use Rattle.hall_match.specs.Rows.{lists, row_at, AreInside}
 use Rattle.hall_match.specs.Chains.{AreChains}
 
--- what a search goes over: the capacities, the rows, what items are given, and the item that seeks a place
+-- what a search goes over: capacities, rows, what items are given, and the item that seeks a place
 pub record Scene : Type 0 where
   pub capacities : List (Option ℕ)
   pub rows : List (List ℕ)
@@ -19,7 +19,12 @@ pub record Scene : Type 0 where
 
 -- the same of the vectors that hold the rows
 abbrev pub scene : List (Option ℕ) → List (Vec ℕ Global) → List (Option ℕ) → ℕ → Scene
-scene capacities rows given item = record { capacities = capacities; rows = lists rows; given = given; item = item }
+scene capacities rows given item = record {
+  capacities = capacities;
+  rows = lists rows;
+  given = given;
+  item = item;
+}
 
 -- the place has been seen
 abbrev pub IsSeen : List Bool → ℕ → Type 0
@@ -29,13 +34,16 @@ IsSeen seen place = slice_index_or seen place false ≡ true
 abbrev pub IsRowSeen : List Bool → List ℕ → Type 0
 IsRowSeen seen row = (place : ℕ) → Contains row place → IsSeen seen place
 
--- an item that seeks a place, or comes after the one that does and is given a seen place, has the place in its row
+-- the place is in the row of the item that seeks one, or of a later item that is given a seen place
 abbrev pub IsReachable : Scene → List Bool → ℕ → Type 0
-IsReachable s seen place = Contains (row_at s.rows s.item) place ⊎ ((from user : ℕ) × IsSeen seen from × (s.item < user) × (given_at s.given user ≡ Some from) × Contains (row_at s.rows user) place)
+IsReachable s seen place = Contains (row_at s.rows s.item) place ⊎
+    ((from user : ℕ) × IsSeen seen from × (s.item < user) × (given_at s.given user ≡ Some from) ×
+    Contains (row_at s.rows user) place)
 
 -- the items from the low one on that are given the place can go to seen places alone
 abbrev pub IsShutFrom : Scene → List Bool → ℕ → ℕ → Type 0
-IsShutFrom s seen place low = (user : ℕ) → low ≤ user → given_at s.given user ≡ Some place → IsRowSeen seen (row_at s.rows user)
+IsShutFrom s seen place low = (user : ℕ) → low ≤ user → given_at s.given user ≡ Some place
+    → IsRowSeen seen (row_at s.rows user)
 
 -- the seen places are closed: each is reachable and full, and its later users can go to seen places alone
 pub record IsClosed (s : Scene) (seen : List Bool) : Type 0 where
@@ -43,19 +51,24 @@ pub record IsClosed (s : Scene) (seen : List Bool) : Type 0 where
   pub full : (place : ℕ) → IsSeen seen place → has_room s.capacities s.given place ≡ false
   pub shut : (place : ℕ) → IsSeen seen place → IsShutFrom s seen place (s.item + 1)
 
--- how the place was reached: as the first one, or by a move of a later user of a place that was reached before
+-- how the place was reached: as the first one, or by a later user of a place reached before
 abbrev pub IsWay : Scene → List Reached → ℕ → ℕ → Option Move → Type 0
 IsWay s reached at place None = at ≡ 0
-IsWay s reached at place (Some move) = (from : Reached) × (move.from < at) × (slice_get reached move.from ≡ Some from) × (s.item < move.item) × (given_at s.given move.item ≡ Some from.place) × Contains (row_at s.rows move.item) place
+IsWay s reached at place (Some move) = (from : Reached) × (move.from < at) ×
+    (slice_get reached move.from ≡ Some from) × (s.item < move.item) ×
+    (given_at s.given move.item ≡ Some from.place) × Contains (row_at s.rows move.item) place
 
 -- different places, each with its way
 pub record IsTrail (s : Scene) (reached : List Reached) : Type 0 where
-  pub ways : (at : ℕ) (here : Reached) → slice_get reached at ≡ Some here → IsWay s reached at here.place here.by
-  pub apart : (at other : ℕ) (here there : Reached) → slice_get reached at ≡ Some here → slice_get reached other ≡ Some there → here.place ≡ there.place → at ≡ other
+  pub ways : (at : ℕ) (here : Reached) → slice_get reached at ≡ Some here
+      → IsWay s reached at here.place here.by
+  pub apart : (at other : ℕ) (here there : Reached) → slice_get reached at ≡ Some here
+      → slice_get reached other ≡ Some there → here.place ≡ there.place → at ≡ other
 
 -- the place was reached, at the number or later
 abbrev pub IsWaiting : List Reached → ℕ → ℕ → Type 0
-IsWaiting reached low place = (at : ℕ) × (here : Reached) × (low ≤ at) × (slice_get reached at ≡ Some here) × (here.place ≡ place)
+IsWaiting reached low place = (at : ℕ) × (here : Reached) × (low ≤ at) ×
+    (slice_get reached at ≡ Some here) × (here.place ≡ place)
 
 -- a search that has gone through what it reached before the number: each seen place is shut or waits
 pub record IsSearch (s : Scene) (seen : List Bool) (reached : List Reached) (low : ℕ) : Type 0 where
@@ -63,7 +76,8 @@ pub record IsSearch (s : Scene) (seen : List Bool) (reached : List Reached) (low
   pub marked : (at : ℕ) (here : Reached) → slice_get reached at ≡ Some here → IsSeen seen here.place
   pub reachable : (place : ℕ) → IsSeen seen place → IsReachable s seen place
   pub full : (place : ℕ) → IsSeen seen place → has_room s.capacities s.given place ≡ false
-  pub waiting : (place : ℕ) → IsSeen seen place → IsShutFrom s seen place (s.item + 1) ⊎ IsWaiting reached low place
+  pub waiting : (place : ℕ) → IsSeen seen place
+      → IsShutFrom s seen place (s.item + 1) ⊎ IsWaiting reached low place
 
 -- the way to a place with room, which was reached last
 pub record IsFound (s : Scene) (reached : List Reached) : Type 0 where
@@ -72,11 +86,12 @@ pub record IsFound (s : Scene) (reached : List Reached) : Type 0 where
   pub is_last : slice_get reached (length reached - 1) ≡ Some last
   pub room : has_room s.capacities s.given last.place ≡ true
 
--- a search that goes on: what it has seen stays seen, and where it began stays; each place that is reached was not seen before
+-- a search that goes on: what was seen and reached stays so, and only unseen places are reached
 pub record GoesOn (old new : List Bool) (before after : List Reached) : Type 0 where
   pub places : length new ≡ length old
   pub seen : (place : ℕ) → IsSeen old place → IsSeen new place
-  pub reached : (at : ℕ) (here : Reached) → slice_get before at ≡ Some here → slice_get after at ≡ Some here
+  pub reached : (at : ℕ) (here : Reached) → slice_get before at ≡ Some here
+      → slice_get after at ≡ Some here
   pub left : count_by not new + length after ≡ count_by not old + length before
 
 -- the least place of the row that can be had: a way leads from it, and the lesser ones are closed
@@ -87,13 +102,15 @@ pub record IsLeastWay (s : Scene) (reached : List Reached) : Type 0 where
   pub neighbour : Contains (row_at s.rows s.item) first.place
   pub closed : List Bool
   pub is_closed : IsClosed s closed
-  pub least : (place : ℕ) → Contains (row_at s.rows s.item) place → place < first.place → IsSeen closed place
+  pub least : (place : ℕ) → Contains (row_at s.rows s.item) place → place < first.place
+      → IsSeen closed place
 
 -- the item is given the place that was reached at the number
 abbrev pub IsUserAt : List (Option ℕ) → List Reached → ℕ → ℕ → Type 0
-IsUserAt given reached item at = (from : Reached) × (slice_get reached at ≡ Some from) × (given_at given item ≡ Some from.place)
+IsUserAt given reached item at = (from : Reached) × (slice_get reached at ≡ Some from) ×
+    (given_at given item ≡ Some from.place)
 
--- what a search stands on: rows of known places, as many rows as items, and the chains of the items after the one that seeks
+-- what a search stands on: rows of known places, a row for each item, and the chains of later items
 pub record IsReady (s : Scene) (used : List ℕ) (ends links : List (Option ℕ)) : Type 0 where
   pub inside : AreInside s.rows (length s.capacities)
   pub counts : length used ≡ length s.capacities

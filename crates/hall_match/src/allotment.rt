@@ -12,8 +12,10 @@ pub struct Allotment {
     pub given: Vec<Option<u32>>,
     pub used: Vec<u32>,
     pub ghost few: { length given.items < 2 ^ 32 },
-    pub ghost inside: { (item place : ℕ) → given_at given.items item ≡ Some place → place < length used.items },
-    pub ghost counted: { (place : ℕ) → place < length used.items → slice_index used.items place ≡ holders place given.items },
+    pub ghost inside: { (item place : ℕ) → given_at given.items item ≡ Some place →
+        place < length used.items },
+    pub ghost counted: { (place : ℕ) → place < length used.items →
+        slice_index used.items place ≡ holders place given.items },
 }
 
 impl Allotment {

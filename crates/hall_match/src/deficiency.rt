@@ -16,7 +16,8 @@ pub fn blocked_items(
     requires few { length given.now < 2 ^ 32 }
     requires item { item < length given.now }
     requires free { given_at given.now item ≡ None }
-    requires inside { (item place : ℕ) → given_at given.now item ≡ Some place → place < length seen.now }
+    requires inside { (item place : ℕ) → given_at given.now item ≡ Some place →
+        place < length seen.now }
     ensures { IfOk result (λ items. AreBlocked given.now seen.now item items.items) }
 {
     let mut items = Vec::new(alloc);

@@ -1,4 +1,4 @@
-//! Matching with capacities: the least full matching, or items whose neighbours hold too few.
+//! Matching with capacities: the least full matching, or items that break Hall's condition.
 #![tactic(auto)]
 
 mod allotment;

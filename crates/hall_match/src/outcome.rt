@@ -1,11 +1,11 @@
-//! The least full matching, or items whose neighbours hold too few.
+//! The least full matching, or items that break Hall's condition.
 
-ghost use Rattle.std.specs.Prelude.{ℕ, ◌≡◌, ◌<◌, length, List, Option, Some, None, slice_index, MatchOption, IfOk, OnOk};
+ghost use Rattle.std.specs.Prelude.{ℕ, ◌≡◌, ◌<◌, length, List, Some, None, slice_index, MatchOption, IfOk, OnOk};
 ghost use Rattle.hall_match.specs.Matchings.{AreEdges, IsMatching, IsLeast, IsDeficient};
 ghost use Rattle.hall_match.specs.Holding.{given_at, IsHeld};
 ghost use Rattle.hall_match.specs.Rows.{lists, HaveEdges, AreInside, AreRising};
-ghost use Rattle.hall_match.specs.Settling.{IsGiven};
-ghost use Rattle.hall_match.specs.Outcome.{IfMatched, IfDeficient, IsUpTo};
+ghost use Rattle.hall_match.specs.Settling.{IsGiven, IsUpTo};
+ghost use Rattle.hall_match.specs.Outcome.{IfMatched, IfDeficient};
 
 use crate::allotment::Allotment;
 use crate::deficiency::blocked_items;
@@ -97,7 +97,13 @@ fn places_of(alloc: Global, given: &[Option<u32>]) -> Result<Vec<u32>, AllocErro
     Ok(list)
 }
 
-/// Gives each item a neighbour within the capacities; `None` is an unlimited capacity.
+/// Gives each of the `left` items a neighbour, so that no place is given to more items than its
+/// capacity; `None` is no limit. Where that can't be, the answer is items that break Hall's
+/// condition: they are more than their neighbours' capacities together.
+///
+/// An edge is an item and a place, and may stand there twice. Each item is settled twice, by one
+/// search for an augmenting path, which goes over each edge at most once; capacities are counts.
+/// The error is want of memory.
 pub fn match_all(
     alloc: Global,
     left: u32,

@@ -1,6 +1,6 @@
 //! The neighbours of each item.
 
-ghost use Rattle.std.specs.Prelude.{ℕ, ◌≡◌, ◌<◌, ◌↔◌, List, [], length, All, Contains, IfOk};
+ghost use Rattle.std.specs.Prelude.{◌≡◌, ◌<◌, [], length, All, IfOk};
 ghost use Rattle.hall_match.specs.Rows.{lists, row_at, HaveEdges, HaveSame, AreRising};
 
 use std::alloc::{AllocError, Global};

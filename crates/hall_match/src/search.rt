@@ -1,9 +1,8 @@
-//! The search for a place with room, by moves of later items.
+//! The search for an augmenting path: a way to a place with room, by moves of later items.
 
-ghost use Rattle.std.specs.Prelude.{ℕ, ◌≡◌, ◌+◌, ◌<◌, ◌≤◌, Bool, true, false, MatchBool, length, slice_set, slice_get, slice_index_or, Some, None, ◌∷◌, ◌++◌, [], Contains, IfOk, OnOk};
-ghost use Rattle.hall_match.specs.Holding.{given_at, has_room};
+ghost use Rattle.std.specs.Prelude.{◌≡◌, ◌+◌, ◌<◌, true, false, MatchBool, length, slice_set, slice_index_or, ◌∷◌, ◌++◌, [], Contains, IfOk, OnOk};
 ghost use Rattle.hall_match.specs.Rows.{lists, row_at, AreInside, AreRising};
-ghost use Rattle.hall_match.specs.Search.{scene, IsSeen, IsRowSeen, IsClosed, IsSearch, IsFound, GoesOn, IsLeastWay, IsUserAt, IsReady, IsFoundFrom, IsClosedWith, IsOutcome};
+ghost use Rattle.hall_match.specs.Search.{scene, IsRowSeen, IsClosed, IsSearch, IsFound, GoesOn, IsUserAt, IsReady, IsFoundFrom, IsClosedWith, IsOutcome};
 
 use crate::allotment::Allotment;
 use crate::rows::row_of;
@@ -164,6 +163,7 @@ fn reach_from(
 }
 
 /// Tries the places of the item's row, the least first, for one with room or with a way to room.
+/// Places from which none was found stay closed, so each edge is gone over at most once.
 pub fn find_way(
     alloc: Global,
     capacities: &[Option<u32>],

@@ -1,6 +1,6 @@
-//! Gives an item a place, and moves later items where that makes room.
+//! Gives an item a place, and moves later items along an augmenting path where that makes room.
 
-ghost use Rattle.std.specs.Prelude.{◌≡◌, ◌<◌, length, slice_index_or, None, MatchOption, IfOk, OnOk};
+ghost use Rattle.std.specs.Prelude.{◌≡◌, ◌<◌, length, None, MatchOption, IfOk, OnOk};
 ghost use Rattle.hall_match.specs.Holding.{given_at, IsHeld};
 ghost use Rattle.hall_match.specs.Rows.{lists, AreInside, AreRising};
 ghost use Rattle.hall_match.specs.Search.{scene, IsClosedRow};

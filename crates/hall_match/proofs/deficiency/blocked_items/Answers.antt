@@ -9,6 +9,10 @@ loop-i-preserved c =
     elim c.if-is_blocked.branch [
       | then-is_blocked+in_ok-push w ↦
           rw (w.items-is, w.in_ok-push.ensures.items)
-          (blocked_push c.args.given.now c.args.seen.now c.args.item old.i old.items.items c.loop-i-test.true old.invariant c.requires.free (sym c.is_blocked.ensures ∙ w.if-is_blocked.true))
-      | else-is_blocked w ↦ rw w.items-is (blocked_skip c.args.given.now c.args.seen.now c.args.item old.i old.items.items c.loop-i-test.true old.invariant (sym c.is_blocked.ensures ∙ w.if-is_blocked.false))
+          (blocked_push c.args.given.now c.args.seen.now c.args.item old.i old.items.items
+          c.loop-i-test.true old.invariant c.requires.free
+          (sym c.is_blocked.ensures ∙ w.if-is_blocked.true))
+      | else-is_blocked w ↦ rw w.items-is (blocked_skip c.args.given.now c.args.seen.now c.args.item
+          old.i old.items.items c.loop-i-test.true old.invariant
+          (sym c.is_blocked.ensures ∙ w.if-is_blocked.false))
     ]

@@ -9,7 +9,12 @@ loop-item-init c = record { whole = refl; edges = c.requires.empty }
 pub index_mut-requires : goal.index_mut-requires
 index_mut-requires c =
     let k : ℕ = c.loop-item.item-index in
-    omega (arith, c.requires.items k (0, 0) (omega arith), c.loop-item.rows.ok.0, c.loop-item.invariant.whole)
+    omega (
+      arith,
+      c.requires.items k (0, 0) (omega arith),
+      c.loop-item.rows.ok.0,
+      c.loop-item.invariant.whole,
+    )
 
 pub loop-item-preserved : goal.loop-item-preserved
 loop-item-preserved c =
@@ -18,10 +23,15 @@ loop-item-preserved c =
     let edge : ℕ × ℕ = get_or edges k (0, 0) in
     let rows = c.loop-item.rows.items in
     let below : k < length edges = omega arith in
-    let inside : edge.0 < length rows = omega (arith, c.requires.items k (0, 0) below, c.loop-item.invariant.whole) in
+    let inside : edge.0 < length rows = omega (
+      arith,
+      c.requires.items k (0, 0) below,
+      c.loop-item.invariant.whole,
+    ) in
     record {
       whole = length-set rows edge.0 c.push.new.self ∙ c.loop-item.invariant.whole;
-      edges = filled rows edges k edge.0 edge.1 c.index_mut.result.now c.push.new.self below refl inside c.index_mut.ensures.value c.in_ok-push.ensures.items c.loop-item.invariant.edges;
+      edges = filled rows edges k edge.0 edge.1 c.index_mut.result.now c.push.new.self below refl
+          inside c.index_mut.ensures.value c.in_ok-push.ensures.items c.loop-item.invariant.edges;
     }
 
 pub returns : goal.returns

@@ -6,5 +6,7 @@ use Rattle.hall_match.proofs.rows.rows_of.Goals as goal
 pub returns-clause-edges : goal.returns-clause-edges
 returns-clause-edges c =
     let filled = lists c.in_ok-rows-2.rows.items in
-    IfOk-weaker c.sorted_rows.result (λ rows. HaveSame filled (lists rows.items)) (λ rows. HaveEdges (lists rows.items) c.args.edges.now)
-    (λ rows same. same_edges filled (lists rows.items) c.args.edges.now same c.in_ok-rows-2.ensures.edges) c.sorted_rows.ensures.same
+    IfOk-weaker c.sorted_rows.result (λ rows. HaveSame filled (lists rows.items))
+    (λ rows. HaveEdges (lists rows.items) c.args.edges.now)
+    (λ rows same. same_edges filled (lists rows.items) c.args.edges.now same
+    c.in_ok-rows-2.ensures.edges) c.sorted_rows.ensures.same

@@ -16,11 +16,19 @@ pub loop-i-preserved : goal.loop-i-preserved
 loop-i-preserved c =
     let old = c.loop-i in
     let rows = old.rows.items in
-    let inside : old.i < length rows = omega (arith, old.rows.ok.0, old.invariant.whole, c.args.rows.ok.0) in
+    let inside : old.i < length rows = omega (
+      arith,
+      old.rows.ok.0,
+      old.invariant.whole,
+      c.args.rows.ok.0,
+    ) in
     record {
       whole = length-set rows old.i c.sort.new.self ∙ old.invariant.whole;
-      same = sorted_same (lists c.args.rows.items) rows old.i c.index_mut.result.now c.sort.new.self inside c.index_mut.ensures.value c.in_ok-sort.ensures.permutation old.invariant.same;
-      rising = sorted_rising rows old.i c.sort.new.self inside (IsNonDecreasingBy-from_sort (λ x. x) c.sort.new.self.items c.in_ok-sort.ensures.sorted) old.invariant.rising;
+      same = sorted_same (lists c.args.rows.items) rows old.i c.index_mut.result.now c.sort.new.self
+          inside c.index_mut.ensures.value c.in_ok-sort.ensures.permutation old.invariant.same;
+      rising = sorted_rising rows old.i c.sort.new.self inside
+          (IsNonDecreasingBy-from_sort (λ x. x) c.sort.new.self.items c.in_ok-sort.ensures.sorted)
+          old.invariant.rising;
     }
 
 pub returns : goal.returns
@@ -29,5 +37,7 @@ returns c =
     record {
       whole = last.invariant.whole;
       same = last.invariant.same;
-      rising = all_rising (lists last.rows.items) (λ item l. last.invariant.rising item (let long = length-map last.rows.items (λ row. row.items) in omega (arith, long, l, last.invariant.whole, c.args.rows.ok.0)));
+      rising = all_rising (lists last.rows.items) (λ item l. last.invariant.rising item
+          (let long = length-map last.rows.items (λ row. row.items) in omega
+          (arith, long, l, last.invariant.whole, c.args.rows.ok.0)));
     }

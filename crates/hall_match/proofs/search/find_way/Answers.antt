@@ -8,27 +8,37 @@ use Rattle.hall_match.proofs.search.find_way.Goals.{then-not-index+in_ok-reach_f
 
 pub index-requires : goal.index-requires
 index-requires c =
-    let s : Scene = scene c.args.capacities.now c.args.rows.now c.args.held.now.given.items c.args.item in
+    let s : Scene = scene c.args.capacities.now c.args.rows.now c.args.held.now.given.items
+    c.args.item in
     let items : List ℕ = c.row_of-place-items.result.now in
-    let contained = near (row_at s.rows s.item) items c.loop-place.place-index c.row_of-place-items.ensures c.loop-place-test.true in
-    let inside = c.requires.ready.inside s.item (get_or items c.loop-place.place-index 0) contained in
+    let contained = near (row_at s.rows s.item) items c.loop-place.place-index
+    c.row_of-place-items.ensures c.loop-place-test.true in
+    let inside = c.requires.ready.inside s.item (get_or items c.loop-place.place-index 0)
+    contained in
     omega (arith, inside, c.loop-place.invariant.places, c.loop-place.search.seen.ok.0)
 
 pub returns-then-branch : goal.returns-then-branch
 returns-then-branch c =
-    let s : Scene = scene c.args.capacities.now c.args.rows.now c.args.held.now.given.items c.args.item in
+    let s : Scene = scene c.args.capacities.now c.args.rows.now c.args.held.now.given.items
+    c.args.item in
     let old = c.loop-place in
     let new = c.reach_from.new.search in
     let items : List ℕ = c.row_of-place-items.result.now in
     let place : ℕ = get_or items old.place-index 0 in
     let same = old.invariant.item in
-    let before : Scene = scene c.args.capacities.now c.args.rows.now c.args.held.now.given.items old.search.item in
-    let found = MatchBool-at_true (IsFoundFrom before new.reached.items place) (IsClosedWith before old.search.seen.items new.seen.items place) c.if-branch.true c.in_ok-reach_from.ensures.outcome in
-    least_way s old.search.seen.items new.reached.items items old.place-index c.row_of-place-items.ensures (c.requires.rising s.item) c.loop-place-test.true old.invariant.closed old.invariant.seen (rw same at found)
+    let before : Scene = scene c.args.capacities.now c.args.rows.now c.args.held.now.given.items
+    old.search.item in
+    let found = MatchBool-at_true (IsFoundFrom before new.reached.items place)
+    (IsClosedWith before old.search.seen.items new.seen.items place) c.if-branch.true
+    c.in_ok-reach_from.ensures.outcome in
+    least_way s old.search.seen.items new.reached.items items old.place-index
+    c.row_of-place-items.ensures (c.requires.rising s.item) c.loop-place-test.true
+    old.invariant.closed old.invariant.seen (rw same at found)
 
 pub loop-place-preserved : goal.loop-place-preserved
 loop-place-preserved c =
-    let s : Scene = scene c.args.capacities.now c.args.rows.now c.args.held.now.given.items c.args.item in
+    let s : Scene = scene c.args.capacities.now c.args.rows.now c.args.held.now.given.items
+    c.args.item in
     let old = c.loop-place in
     let items : List ℕ = c.row_of-place-items.result.now in
     let place : ℕ = get_or items old.place-index 0 in
@@ -36,33 +46,42 @@ loop-place-preserved c =
       | then-not-index+in_ok-reach_from+else-branch w ↦
           let new = w.reach_from.new.search in
           let same = old.invariant.item in
-          let before : Scene = scene c.args.capacities.now c.args.rows.now c.args.held.now.given.items old.search.item in
-          let closed = MatchBool-at_false (IsFoundFrom before new.reached.items place) (IsClosedWith before old.search.seen.items new.seen.items place) w.if-branch.false w.in_ok-reach_from.ensures.outcome in
+          let before : Scene = scene c.args.capacities.now c.args.rows.now
+          c.args.held.now.given.items old.search.item in
+          let closed = MatchBool-at_false (IsFoundFrom before new.reached.items place)
+          (IsClosedWith before old.search.seen.items new.seen.items place) w.if-branch.false
+          w.in_ok-reach_from.ensures.outcome in
           let all = closed.closed in
           rw w.search-is (record {
             item = w.reach_from.ensures.item ∙ same;
             places = w.in_ok-reach_from.ensures.places ∙ old.invariant.places;
             closed = rw same at all;
-            seen = next_seen old.search.seen.items new.seen.items items old.place-index closed.still closed.here old.invariant.seen;
+            seen = next_seen old.search.seen.items new.seen.items items old.place-index closed.still
+                closed.here old.invariant.seen;
           })
       | else-not-index w ↦
-          let contained = near (row_at s.rows s.item) items old.place-index c.row_of-place-items.ensures c.loop-place-test.true in
+          let contained = near (row_at s.rows s.item) items old.place-index
+          c.row_of-place-items.ensures c.loop-place-test.true in
           let inside = c.requires.ready.inside s.item place contained in
-          let here = read_true old.search.seen.items place c.index.result.now (omega (arith, inside, old.invariant.places)) c.index.ensures w.if-not-index.false in
+          let here = read_true old.search.seen.items place c.index.result.now
+          (omega (arith, inside, old.invariant.places)) c.index.ensures w.if-not-index.false in
           rw w.search-is (record {
             item = old.invariant.item;
             places = old.invariant.places;
             closed = old.invariant.closed;
-            seen = next_seen old.search.seen.items old.search.seen.items items old.place-index (λ p e. e) here old.invariant.seen;
+            seen = next_seen old.search.seen.items old.search.seen.items items old.place-index
+                (λ p e. e) here old.invariant.seen;
           })
     ]
 
 pub returns : goal.returns
 returns c =
-    let s : Scene = scene c.args.capacities.now c.args.rows.now c.args.held.now.given.items c.args.item in
+    let s : Scene = scene c.args.capacities.now c.args.rows.now c.args.held.now.given.items
+    c.args.item in
     let last = c.loop-place in
     record {
       places = last.invariant.places;
       closed = last.invariant.closed;
-      row = row_seen last.search.seen.items (row_at s.rows s.item) c.row_of-place-items.result.now c.row_of-place-items.ensures (λ k l. last.invariant.seen k (omega (arith, l)));
+      row = row_seen last.search.seen.items (row_at s.rows s.item) c.row_of-place-items.result.now
+          c.row_of-place-items.ensures (λ k l. last.invariant.seen k (omega (arith, l)));
     }

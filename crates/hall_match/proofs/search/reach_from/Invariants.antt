@@ -5,8 +5,10 @@ use Rattle.hall_match.proofs.search.reach_from.Given as goal
 abbrev pub invariant-loop-at : goal.invariant-loop-at
 invariant-loop-at l = record {
   item : l.search.item ≡ l.initial.search.item;
-  goes_on : GoesOn l.initial.search.seen.items l.search.seen.items l.initial.search.reached.items l.search.reached.items;
-  search : IsSearch (scene l.capacities l.rows l.held.given.items l.initial.search.item) l.search.seen.items l.search.reached.items l.at;
+  goes_on : GoesOn l.initial.search.seen.items l.search.seen.items l.initial.search.reached.items
+      l.search.reached.items;
+  search : IsSearch (scene l.capacities l.rows l.held.given.items l.initial.search.item)
+      l.search.seen.items l.search.reached.items l.at;
 }
 
 abbrev pub decreases-loop-at : goal.decreases-loop-at

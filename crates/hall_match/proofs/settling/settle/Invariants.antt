@@ -7,7 +7,8 @@ abbrev pub invariant-loop-here : goal.invariant-loop-here
 invariant-loop-here l = record {
   places : length l.held.used.items ≡ length l.capacities;
   found : IsLeastWay (scene l.capacities l.rows l.initial.held.given.items l.item) l.way.items;
-  moving : Moving (scene l.capacities l.rows l.initial.held.given.items l.item) l.way.items l.held.given.items l.here;
+  moving : Moving (scene l.capacities l.rows l.initial.held.given.items l.item) l.way.items
+      l.held.given.items l.here;
 }
 
 abbrev pub decreases-loop-here : goal.decreases-loop-here
