@@ -185,15 +185,16 @@ pub fn find_way(
         reached: Vec::new(alloc),
     };
     for place in row_of(rows, item) {
-        if !search.seen[*place as usize] {
-            if reach_from(capacities, rows, held, users, &mut search, *place)? {
-                let Search {
-                    item: _,
-                    seen: _,
-                    reached,
-                } = search;
-                return Ok(Found::Way(reached));
-            }
+        if search.seen[*place as usize] {
+            continue;
+        }
+        if reach_from(capacities, rows, held, users, &mut search, *place)? {
+            let Search {
+                item: _,
+                seen: _,
+                reached,
+            } = search;
+            return Ok(Found::Way(reached));
         }
     }
     let Search {

@@ -1,10 +1,9 @@
-use Rattle.std.proofs.Common.{ℕ, get_or, List, arith, ◌∙◌}
-use Rattle.std.proofs.lemmas.Bool.{MatchBool-at_true, MatchBool-at_false}
+use Rattle.std.proofs.Common.{ℕ, get_or, List, arith}
+use Rattle.std.proofs.lemmas.Bool.{MatchBool-at_true}
 use Rattle.hall_match.specs.Rows.{row_at}
 use Rattle.hall_match.specs.Search.{Scene, scene, IsFoundFrom, IsClosedWith}
 use Rattle.hall_match.proofs.SearchLemmas.{near, row_seen, next_seen, read_true, least_way}
 use Rattle.hall_match.proofs.search.find_way.Goals as goal
-use Rattle.hall_match.proofs.search.find_way.Goals.{then-not-index+in_ok-reach_from+else-branch, else-not-index}
 
 pub index-requires : goal.index-requires
 index-requires c =
@@ -35,44 +34,25 @@ returns-then-branch c =
     c.row_of-place-items.ensures (c.requires.rising s.item) c.loop-place-test.true
     old.invariant.closed old.invariant.seen (rw same at found)
 
-pub loop-place-preserved : goal.loop-place-preserved
-loop-place-preserved c =
+pub loop-place-preserved-then-index : goal.loop-place-preserved-then-index
+loop-place-preserved-then-index c =
     let s : Scene = scene c.args.capacities.now c.args.rows.now c.args.held.now.given.items
     c.args.item in
     let old = c.loop-place in
+    let seen = old.search.seen.items in
     let items : List ℕ = c.row_of-place-items.result.now in
     let place : ℕ = get_or items old.place-index 0 in
-    elim c.if-not-index.branch [
-      | then-not-index+in_ok-reach_from+else-branch w ↦
-          let new = w.reach_from.new.search in
-          let same = old.invariant.item in
-          let before : Scene = scene c.args.capacities.now c.args.rows.now
-          c.args.held.now.given.items old.search.item in
-          let closed = MatchBool-at_false (IsFoundFrom before new.reached.items place)
-          (IsClosedWith before old.search.seen.items new.seen.items place) w.if-branch.false
-          w.in_ok-reach_from.ensures.outcome in
-          let all = closed.closed in
-          rw w.search-is (record {
-            item = w.reach_from.ensures.item ∙ same;
-            places = w.in_ok-reach_from.ensures.places ∙ old.invariant.places;
-            closed = rw same at all;
-            seen = next_seen old.search.seen.items new.seen.items items old.place-index closed.still
-                closed.here old.invariant.seen;
-          })
-      | else-not-index w ↦
-          let contained = near (row_at s.rows s.item) items old.place-index
-          c.row_of-place-items.ensures c.loop-place-test.true in
-          let inside = c.requires.ready.inside s.item place contained in
-          let here = read_true old.search.seen.items place c.index.result.now
-          (omega (arith, inside, old.invariant.places)) c.index.ensures w.if-not-index.false in
-          rw w.search-is (record {
-            item = old.invariant.item;
-            places = old.invariant.places;
-            closed = old.invariant.closed;
-            seen = next_seen old.search.seen.items old.search.seen.items items old.place-index
-                (λ p e. e) here old.invariant.seen;
-          })
-    ]
+    let contained = near (row_at s.rows s.item) items old.place-index c.row_of-place-items.ensures
+    c.loop-place-test.true in
+    let inside = c.requires.ready.inside s.item place contained in
+    let here = read_true seen place c.index.result.now (omega (arith, inside, old.invariant.places))
+    c.index.ensures c.if-index.true in
+    record {
+      item = old.invariant.item;
+      places = old.invariant.places;
+      closed = old.invariant.closed;
+      seen = next_seen seen seen items old.place-index (λ p e. e) here old.invariant.seen;
+    }
 
 pub returns : goal.returns
 returns c =
