@@ -10,7 +10,7 @@ use Rattle.std.proofs.lemmas.List.Sums.{sum_by-set}
 use Rattle.hall_match.specs.declared.search.Reached.{Reached}
 use Rattle.hall_match.specs.declared.search.Move.{Move}
 use Rattle.hall_match.specs.Holding.{has_room}
-use Rattle.hall_match.specs.Rows.{row_at}
+use Rattle.hall_match.specs.Rows.{row_at, AreInside}
 use Rattle.hall_match.specs.Search.{Scene, IsSeen, IsRowSeen, IsReachable, IsShutFrom, IsClosed, IsWay, IsTrail, IsWaiting, IsSearch, IsFound, IsFoundFrom, IsLeastWay, GoesOn, IsUserAt}
 
 -- a list with one more at its end
@@ -455,3 +455,18 @@ least_way s seen reached items i e up inside closed h f = record {
   is_closed = closed;
   least = λ place c less. lesser_seen seen items i (rw e up) inside h place (rw e c) less;
 }
+
+-- the same of the next place of the row, which is read as not seen
+pub row_next : (s : Scene) (seen new : List Bool) (before reached after : List Reached) (by : Move)
+    (items : List ℕ) (i : ℕ) (read : Bool) → IsSearch s seen reached by.from → s.item < by.item
+    → ((k : ℕ) (here : Reached) → slice_get before k ≡ Some here → slice_get reached k ≡ Some here)
+    → IsUserAt s.given before by.item by.from → items ≡ row_at s.rows by.item → i < length items
+    → AreInside s.rows (length seen) → read ≡ get_or seen (get_or items i 0) read → read ≡ false
+    → new ≡ set seen (get_or items i 0) true
+    → after ≡ reached ++ record { place = get_or items i 0; by = Some by } ∷ []
+    → RowStep s seen new reached after (get_or items i 0) by.from
+row_next s seen new before reached after by items i read h later up user row l inside reads off =
+    let contained = near (row_at s.rows by.item) items i row l in
+    let within = inside by.item (get_or items i 0) contained in
+    row_step s seen new before reached after by (get_or items i 0) h later up user contained within
+    (read_false seen (get_or items i 0) read within reads off)

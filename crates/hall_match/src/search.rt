@@ -79,11 +79,12 @@ fn reach_row(
         (IsRowSeen search.new.seen.items (row_at (lists rows.now) by.item))) }
 {
     for place in row_of(rows, by.item) {
-        if !search.seen[*place as usize] {
-            visit(search, *place, Some(by))?;
-            if held.has_room(capacities, *place) {
-                return Ok(true);
-            }
+        if search.seen[*place as usize] {
+            continue;
+        }
+        visit(search, *place, Some(by))?;
+        if held.has_room(capacities, *place) {
+            return Ok(true);
         }
     }
     Ok(false)

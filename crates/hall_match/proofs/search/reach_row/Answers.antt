@@ -1,9 +1,8 @@
-use Rattle.std.proofs.Common.{ℕ, ◌<◌, length, get_or, List, arith, sym, ◌∙◌}
+use Rattle.std.proofs.Common.{ℕ, ◌≡◌, ◌<◌, length, get_or, List, arith, sym, ◌∙◌}
 use Rattle.hall_match.specs.Rows.{lists, row_at}
 use Rattle.hall_match.specs.Search.{Scene, scene}
-use Rattle.hall_match.proofs.SearchLemmas.{near, row_seen, row_step, goes_further, next_seen, read_false, read_true}
+use Rattle.hall_match.proofs.SearchLemmas.{near, row_seen, row_next, goes_further, next_seen, read_true}
 use Rattle.hall_match.proofs.search.reach_row.Goals as goal
-use Rattle.hall_match.proofs.search.reach_row.Goals.{then-not-index+in_ok-visit+else-has_room, else-not-index}
 
 pub index-requires : goal.index-requires
 index-requires c =
@@ -46,73 +45,70 @@ pub returns-then-has_room : goal.returns-then-has_room
 returns-then-has_room c =
     let old = c.loop-place in
     let start = c.args.search.now in
+    let new = c.visit.new.search in
     let s : Scene = scene c.args.capacities.now c.args.rows.now c.args.held.now.given.items
     start.item in
-    let items : List ℕ = c.row_of-place-items.result.now in
-    let place : ℕ = get_or items old.place-index 0 in
-    let contained = near (row_at s.rows c.args.by.item) items old.place-index
-    c.row_of-place-items.ensures c.loop-place-test.true in
-    let inside = c.requires.inside c.args.by.item place contained in
-    let within : place < length old.search.seen.items = omega
-    (arith, inside, c.requires.places, old.invariant.goes_on.places) in
-    let new = read_false old.search.seen.items place c.index.result.now within c.index.ensures
-    c.if-not-index.true in
-    let step = row_step s old.search.seen.items c.visit.new.search.seen.items start.reached.items
-    old.search.reached.items c.visit.new.search.reached.items c.args.by place
-    old.invariant.search c.requires.later
-    old.invariant.goes_on.reached c.requires.from contained within new c.in_ok-visit.ensures.seen
-    c.in_ok-visit.ensures.reached in
+    let long : length old.search.seen.items ≡ length s.capacities =
+    old.invariant.goes_on.places ∙ c.requires.places in
+    let step = row_next s old.search.seen.items new.seen.items start.reached.items
+    old.search.reached.items new.reached.items c.args.by c.row_of-place-items.result.now
+    old.place-index c.index.result.now old.invariant.search c.requires.later
+    old.invariant.goes_on.reached c.requires.from c.row_of-place-items.ensures
+    c.loop-place-test.true (rw long c.requires.inside) c.index.ensures c.if-index.false
+    c.in_ok-visit.ensures.seen c.in_ok-visit.ensures.reached in
     record {
       item = c.visit.ensures.item ∙ old.invariant.item;
-      goes_on = goes_further start.seen.items old.search.seen.items c.visit.new.search.seen.items
-          start.reached.items old.search.reached.items c.visit.new.search.reached.items
+      goes_on = goes_further start.seen.items old.search.seen.items new.seen.items
+          start.reached.items old.search.reached.items new.reached.items
           old.invariant.goes_on step.goes_on;
       outcome = step.found (sym c.has_room.ensures ∙ c.if-has_room.true);
       seen = tt;
+    }
+
+pub loop-place-preserved-then-index : goal.loop-place-preserved-then-index
+loop-place-preserved-then-index c =
+    let old = c.loop-place in
+    let seen = old.search.seen.items in
+    let items : List ℕ = c.row_of-place-items.result.now in
+    let place : ℕ = get_or items old.place-index 0 in
+    let contained = near (row_at (lists c.args.rows.now) c.args.by.item) items old.place-index
+    c.row_of-place-items.ensures c.loop-place-test.true in
+    let inside = c.requires.inside c.args.by.item place contained in
+    let within : place < length seen =
+    omega (arith, inside, c.requires.places, old.invariant.goes_on.places) in
+    let here = read_true seen place c.index.result.now within c.index.ensures c.if-index.true in
+    record {
+      item = old.invariant.item;
+      goes_on = old.invariant.goes_on;
+      search = old.invariant.search;
+      seen = next_seen seen seen items old.place-index (λ p e. e) here old.invariant.seen;
     }
 
 pub loop-place-preserved : goal.loop-place-preserved
 loop-place-preserved c =
     let old = c.loop-place in
     let start = c.args.search.now in
+    let new = c.visit.new.search in
+    let items : List ℕ = c.row_of-place-items.result.now in
     let s : Scene = scene c.args.capacities.now c.args.rows.now c.args.held.now.given.items
     start.item in
-    let items : List ℕ = c.row_of-place-items.result.now in
-    let place : ℕ = get_or items old.place-index 0 in
-    let contained = near (row_at s.rows c.args.by.item) items old.place-index
-    c.row_of-place-items.ensures c.loop-place-test.true in
-    let inside = c.requires.inside c.args.by.item place contained in
-    let within : place < length old.search.seen.items = omega
-    (arith, inside, c.requires.places, old.invariant.goes_on.places) in
-    elim c.if-not-index.branch [
-      | then-not-index+in_ok-visit+else-has_room w ↦
-          let new = read_false old.search.seen.items place c.index.result.now within c.index.ensures
-          w.if-not-index.true in
-          let step = row_step s old.search.seen.items w.visit.new.search.seen.items
-          start.reached.items old.search.reached.items w.visit.new.search.reached.items
-          c.args.by place old.invariant.search c.requires.later
-          old.invariant.goes_on.reached c.requires.from contained within new
-          w.in_ok-visit.ensures.seen w.in_ok-visit.ensures.reached in
-          rw w.search-is (record {
-            item = w.visit.ensures.item ∙ old.invariant.item;
-            goes_on = goes_further start.seen.items old.search.seen.items
-                w.visit.new.search.seen.items start.reached.items old.search.reached.items
-                w.visit.new.search.reached.items old.invariant.goes_on step.goes_on;
-            search = step.full (sym w.has_room.ensures ∙ w.if-has_room.false);
-            seen = next_seen old.search.seen.items w.visit.new.search.seen.items items
-                old.place-index step.goes_on.seen step.here old.invariant.seen;
-          })
-      | else-not-index w ↦
-          let here = read_true old.search.seen.items place c.index.result.now within c.index.ensures
-          w.if-not-index.false in
-          rw w.search-is (record {
-            item = old.invariant.item;
-            goes_on = old.invariant.goes_on;
-            search = old.invariant.search;
-            seen = next_seen old.search.seen.items old.search.seen.items items old.place-index
-                (λ p e. e) here old.invariant.seen;
-          })
-    ]
+    let long : length old.search.seen.items ≡ length s.capacities =
+    old.invariant.goes_on.places ∙ c.requires.places in
+    let step = row_next s old.search.seen.items new.seen.items start.reached.items
+    old.search.reached.items new.reached.items c.args.by items
+    old.place-index c.index.result.now old.invariant.search c.requires.later
+    old.invariant.goes_on.reached c.requires.from c.row_of-place-items.ensures
+    c.loop-place-test.true (rw long c.requires.inside) c.index.ensures c.if-index.false
+    c.in_ok-visit.ensures.seen c.in_ok-visit.ensures.reached in
+    record {
+      item = c.visit.ensures.item ∙ old.invariant.item;
+      goes_on = goes_further start.seen.items old.search.seen.items new.seen.items
+          start.reached.items old.search.reached.items new.reached.items
+          old.invariant.goes_on step.goes_on;
+      search = step.full (sym c.has_room.ensures ∙ c.if-has_room.false);
+      seen = next_seen old.search.seen.items new.seen.items items old.place-index
+          step.goes_on.seen step.here old.invariant.seen;
+    }
 
 pub returns-clause-seen : goal.returns-clause-seen
 returns-clause-seen c =
