@@ -1,0 +1,14 @@
+pub mod CountLemmas
+pub mod LawLemmas
+pub mod RowLemmas
+pub mod HoldingLemmas
+pub mod ChainLemmas
+pub mod SearchLemmas
+pub mod WalkLemmas
+pub mod MoveLemmas
+pub mod MarkLemmas
+pub mod DeficiencyLemmas
+pub mod ExclusionLemmas
+pub mod BlockingLemmas
+pub mod SettlingLemmas
+pub mod LeastLemmas

@@ -1,0 +1,18 @@
+//! Matching with capacities: the least full matching, or items that break Hall's condition.
+#![tactic(auto)]
+
+mod allotment;
+mod deficiency;
+mod laws;
+mod outcome;
+mod rows;
+mod search;
+mod settling;
+mod users;
+
+pub use laws::{deficient_law, least_law};
+pub use outcome::{Matching, match_all};
+pub use std::alloc::AllocError as NoMemory;
+
+#[cfg(test)]
+mod tests;
