@@ -3,7 +3,6 @@ pub mod Rules
 pub mod Policies
 pub mod Holders
 pub mod Steps
-pub mod Permissions
 pub mod Embeds
 pub mod Goals
 pub mod Verdicts

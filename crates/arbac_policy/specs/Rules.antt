@@ -1,5 +1,5 @@
 -- A policy: a role order, the rules of URA97 and PRA97, and the exclusive pairs.
-use Rattle.std.specs.Prelude.{ℕ, ◌<◌, List, length}
+use Rattle.std.specs.Prelude.{ℕ, ◌<◌, ◌^◌, List, length}
 use Rattle.role_order.specs.Lists.{Each}
 use Rattle.role_order.specs.Graph.{Graph}
 use Rattle.role_order.specs.declared.range.Range.{Range}
@@ -14,6 +14,17 @@ pub record Rules : Type 0 where
   pub assignp : List CanAssign
   pub revokep : List CanRevoke
   pub exclusive : List (ℕ × ℕ)
+
+-- the policy of these parts
+abbrev pub policy_of : Graph → List CanAssign → List CanRevoke → List CanAssign → List CanRevoke → List (ℕ × ℕ) → Rules
+policy_of order assign revoke assignp revokep exclusive = record {
+  order = order;
+  assign = assign;
+  revoke = revoke;
+  assignp = assignp;
+  revokep = revokep;
+  exclusive = exclusive;
+}
 
 -- both ends are roles
 abbrev pub IsKnownRange : ℕ → Range → Type 0
@@ -39,3 +50,11 @@ pub record IsPolicy (rules : Rules) : Type 0 where
   pub assignp : Each (IsKnownAssign (length rules.order.names)) rules.assignp
   pub revokep : Each (IsKnownRevoke (length rules.order.names)) rules.revokep
   pub exclusive : Each (IsKnownPair (length rules.order.names)) rules.exclusive
+
+-- places in each table are 32-bit numbers
+pub record AreCountable (rules : Rules) : Type 0 where
+  pub assign : length rules.assign < 2 ^ 32
+  pub revoke : length rules.revoke < 2 ^ 32
+  pub assignp : length rules.assignp < 2 ^ 32
+  pub revokep : length rules.revokep < 2 ^ 32
+  pub exclusive : length rules.exclusive < 2 ^ 32

@@ -1,4 +1,4 @@
--- Steps of URA97 on a population, and runs.
+-- Steps of URA97 on users and of PRA97 on permissions, and runs.
 use Rattle.std.specs.Prelude.{ℕ, ◌≡◌, List, [], ◌∷◌, ◌⊎◌, slice_get, slice_set, Some}
 use Rattle.role_order.specs.Lists.{Some_of}
 use Rattle.role_order.specs.Roles.{with_role, without_role, IsIn}
@@ -9,9 +9,9 @@ use Rattle.arbac_policy.specs.declared.rule.CanRevoke.{CanRevoke}
 use Rattle.arbac_policy.specs.declared.act.Act.{Act}
 use Rattle.arbac_policy.specs.declared.act.ActKind.{ActKind}
 use Rattle.arbac_policy.specs.declared.act.ActKind.TheVariants.{Assign, Weak, Strong}
-use Rattle.arbac_policy.specs.Truth.{Holder, user, IsMember, Satisfies, term_of}
+use Rattle.arbac_policy.specs.Truth.{Holder, user, permission, IsMember, Satisfies, term_of}
 use Rattle.arbac_policy.specs.Rules.{Rules}
-use Rattle.arbac_policy.specs.Holders.{assign_rules, revoke_rules, pairs_of, falling}
+use Rattle.arbac_policy.specs.Holders.{assign_rules, revoke_rules, pairs_of, falling, admins_of}
 
 -- the pair blocks the role for the set: the role is above one of the pair, and with it the set is a member of both
 pub record Blocks (edges : List (ℕ × ℕ)) (set : List ℕ) (role : ℕ) (pair : ℕ × ℕ) : Type 0 where
@@ -49,25 +49,29 @@ pub record WeakStep (holder : Holder) (rules : Rules) (users old : List (List �
   pub gives : new ≡ slice_set old target (without_role set role)
 
 -- weak steps of these roles, one after another, each in the state that the former ones left
-abbrev pub WeakSteps : Rules → List (List ℕ) → ℕ → ℕ → List ℕ → List (List ℕ) → Type 0
-WeakSteps rules old admin target [] new = new ≡ old
-WeakSteps rules old admin target (role ∷ roles) new =
-    (mid : List (List ℕ)) × WeakStep user rules old old admin target role mid × WeakSteps rules mid admin target roles new
+abbrev pub WeakSteps : Holder → Rules → List (List ℕ) → List (List ℕ) → ℕ → ℕ → List ℕ → List (List ℕ) → Type 0
+WeakSteps holder rules users old admin target [] new = new ≡ old
+WeakSteps holder rules users old admin target (role ∷ roles) new =
+    (mid : List (List ℕ)) × WeakStep holder rules (admins_of holder users old) old admin target role mid × WeakSteps holder rules users mid admin target roles new
 
--- the weak steps of the role and of each held role above it, by rising number
-pub record StrongStep (rules : Rules) (old : List (List ℕ)) (admin target role : ℕ) (new : List (List ℕ)) : Type 0 where
+-- the weak steps of the role and of each held role in its reach, by rising number
+pub record StrongStep (holder : Holder) (rules : Rules) (users old : List (List ℕ)) (admin target role : ℕ) (new : List (List ℕ)) : Type 0 where
   pub set : List ℕ
   pub set_is : slice_get old target ≡ Some set
-  pub steps : WeakSteps rules old admin target (falling user rules.order set role) new
+  pub steps : WeakSteps holder rules users old admin target (falling holder rules.order set role) new
 
-abbrev pub KindStep : ActKind → Rules → List (List ℕ) → ℕ → ℕ → ℕ → List (List ℕ) → Type 0
-KindStep Assign rules old = AssignStep user rules old old
-KindStep Weak rules old = WeakStep user rules old old
-KindStep Strong rules old = StrongStep rules old
+abbrev pub KindStep : ActKind → Holder → Rules → List (List ℕ) → List (List ℕ) → ℕ → ℕ → ℕ → List (List ℕ) → Type 0
+KindStep Assign = AssignStep
+KindStep Weak = WeakStep
+KindStep Strong = StrongStep
 
--- the act leads from one population to the other
+-- URA97: the act leads from one population to the other
 abbrev pub Step : Rules → List (List ℕ) → Act → List (List ℕ) → Type 0
-Step rules old act new = KindStep act.kind rules old act.admin act.target act.role new
+Step rules old act new = KindStep act.kind user rules old old act.admin act.target act.role new
+
+-- PRA97: the act of a user leads from one list of permissions to the other, while the users stay
+abbrev pub PermStep : Rules → List (List ℕ) → List (List ℕ) → Act → List (List ℕ) → Type 0
+PermStep rules users old act new = KindStep act.kind permission rules users old act.admin act.target act.role new
 
 -- the acts lead from one population to the other, one after another
 abbrev pub Run : Rules → List (List ℕ) → List Act → List (List ℕ) → Type 0

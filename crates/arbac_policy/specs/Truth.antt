@@ -4,6 +4,8 @@ use Rattle.role_order.specs.Roles.{IsIn}
 use Rattle.role_order.specs.Graph.{Leads}
 use Rattle.arbac_policy.specs.declared.cond.Cond.{Cond, fold-Cond}
 use Rattle.arbac_policy.specs.declared.cond.Cond.TheOpen.{Cond-F, Any, Has, Lacks, And, Or}
+use Rattle.arbac_policy.specs.declared.holder.On.{On}
+use Rattle.arbac_policy.specs.declared.holder.On.TheVariants.{User, Permission}
 
 -- a condition as plain data
 pub data Term : Type 0 where
@@ -24,9 +26,15 @@ term_level (Or left right) = either left right
 abbrev pub term_of : Cond → Term
 term_of cond = fold-Cond Term term_level cond
 
--- who holds roles
-pub data Holder : Type 0 where
-  user permission : Holder
+-- who holds roles: a user or a permission
+abbrev pub Holder : Type 0
+Holder = On
+
+abbrev pub user : Holder
+user = User
+
+abbrev pub permission : Holder
+permission = Permission
 
 -- a user's set is a member of a role where one of its roles is >= it
 abbrev pub IsMember : List (ℕ × ℕ) → List ℕ → ℕ → Type 0
@@ -37,8 +45,8 @@ abbrev pub IsPermMember : List (ℕ × ℕ) → List ℕ → ℕ → Type 0
 IsPermMember edges set role = (held : ℕ) × IsIn set held × Leads edges role held
 
 abbrev pub IsMemberOf : Holder → List (ℕ × ℕ) → List ℕ → ℕ → Type 0
-IsMemberOf user = IsMember
-IsMemberOf permission = IsPermMember
+IsMemberOf User = IsMember
+IsMemberOf Permission = IsPermMember
 
 -- the condition is true of the set
 abbrev pub Satisfies : Holder → List (ℕ × ℕ) → List ℕ → Term → Type 0

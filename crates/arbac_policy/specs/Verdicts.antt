@@ -12,7 +12,7 @@ use Rattle.arbac_policy.specs.declared.verdict.Part.TheVariants.{NoUser, NoRole,
 use Rattle.arbac_policy.specs.declared.verdict.Side.TheVariants.{Admin, Target}
 use Rattle.arbac_policy.specs.Truth.{Holder, user, permission, IsMember}
 use Rattle.arbac_policy.specs.Rules.{Rules}
-use Rattle.arbac_policy.specs.Holders.{assign_rules, revoke_rules, pairs_of, falling}
+use Rattle.arbac_policy.specs.Holders.{assign_rules, revoke_rules, pairs_of, falling, admins_of}
 use Rattle.arbac_policy.specs.Steps.{Blocks, LetsAssign, LetsRevoke, WeakStep}
 
 -- the administrator's place is outside the users, or else the target's place outside its list
@@ -71,36 +71,27 @@ WeakDenied holder rules users old admin target role part =
     ⊎ ((by : List ℕ) × (set : List ℕ) × (slice_get users admin ≡ Some by) × (slice_get old target ≡ Some set) × RevokeFails holder rules by role part)
 
 -- of the weak steps of these roles the first that is none fails for this part, in the state that it finds
-abbrev pub WeaksDenied : Rules → List (List ℕ) → ℕ → ℕ → List ℕ → Part → Type 0
-WeaksDenied rules old admin target [] part = ⊥
-WeaksDenied rules old admin target (role ∷ roles) part =
-    WeakDenied user rules old old admin target role part
-    ⊎ ((mid : List (List ℕ)) × WeakStep user rules old old admin target role mid × WeaksDenied rules mid admin target roles part)
+abbrev pub WeaksDenied : Holder → Rules → List (List ℕ) → List (List ℕ) → ℕ → ℕ → List ℕ → Part → Type 0
+WeaksDenied holder rules users old admin target [] part = ⊥
+WeaksDenied holder rules users old admin target (role ∷ roles) part =
+    WeakDenied holder rules (admins_of holder users old) old admin target role part
+    ⊎ ((mid : List (List ℕ)) × WeakStep holder rules (admins_of holder users old) old admin target role mid × WeaksDenied holder rules users mid admin target roles part)
 
-abbrev pub PermWeaksDenied : Rules → List (List ℕ) → List (List ℕ) → ℕ → ℕ → List ℕ → Part → Type 0
-PermWeaksDenied rules users old admin target [] part = ⊥
-PermWeaksDenied rules users old admin target (role ∷ roles) part =
-    WeakDenied permission rules users old admin target role part
-    ⊎ ((mid : List (List ℕ)) × WeakStep permission rules users old admin target role mid × PermWeaksDenied rules users mid admin target roles part)
+-- a strong revocation has no step, for this first part
+abbrev pub StrongDenied : Holder → Rules → List (List ℕ) → List (List ℕ) → ℕ → ℕ → ℕ → Part → Type 0
+StrongDenied holder rules users old admin target role part =
+    PlaceFails users old admin target part
+    ⊎ ((set : List ℕ) × (slice_get old target ≡ Some set) × WeaksDenied holder rules users old admin target (falling holder rules.order set role) part)
+
+abbrev pub KindDenied : ActKind → Holder → Rules → List (List ℕ) → List (List ℕ) → ℕ → ℕ → ℕ → Part → Type 0
+KindDenied Assign = AssignDenied
+KindDenied Weak = WeakDenied
+KindDenied Strong = StrongDenied
 
 -- the act on users has no step, for this first part
-abbrev pub KindDenied : ActKind → Rules → List (List ℕ) → ℕ → ℕ → ℕ → Part → Type 0
-KindDenied Assign rules old = AssignDenied user rules old old
-KindDenied Weak rules old = WeakDenied user rules old old
-KindDenied Strong rules old = λ admin target role part.
-    PlaceFails old old admin target part
-    ⊎ ((set : List ℕ) × (slice_get old target ≡ Some set) × WeaksDenied rules old admin target (falling user rules.order set role) part)
-
 abbrev pub Denies : Rules → List (List ℕ) → Act → Part → Type 0
-Denies rules old act part = KindDenied act.kind rules old act.admin act.target act.role part
+Denies rules old act part = KindDenied act.kind user rules old old act.admin act.target act.role part
 
 -- the act on permissions has no step, for this first part
-abbrev pub PermKindDenied : ActKind → Rules → List (List ℕ) → List (List ℕ) → ℕ → ℕ → ℕ → Part → Type 0
-PermKindDenied Assign rules users old = AssignDenied permission rules users old
-PermKindDenied Weak rules users old = WeakDenied permission rules users old
-PermKindDenied Strong rules users old = λ admin target role part.
-    PlaceFails users old admin target part
-    ⊎ ((set : List ℕ) × (slice_get old target ≡ Some set) × PermWeaksDenied rules users old admin target (falling permission rules.order set role) part)
-
 abbrev pub PermDenies : Rules → List (List ℕ) → List (List ℕ) → Act → Part → Type 0
-PermDenies rules users old act part = PermKindDenied act.kind rules users old act.admin act.target act.role part
+PermDenies rules users old act part = KindDenied act.kind permission rules users old act.admin act.target act.role part

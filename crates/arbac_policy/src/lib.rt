@@ -3,6 +3,7 @@
 
 mod act;
 mod cond;
+mod holder;
 mod policy;
 mod profile;
 mod rule;
@@ -11,8 +12,9 @@ mod verdict;
 
 pub use act::{Act, ActKind};
 pub use cond::Cond;
+pub use holder::On;
 pub use policy::Policy;
 pub use profile::Profile;
 pub use rule::{CanAssign, CanRevoke};
-pub use truth::{holds, holds_perm, is_member};
+pub use truth::{holds, holds_perm, is_member, is_true};
 pub use verdict::{Part, Side};

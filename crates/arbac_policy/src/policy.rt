@@ -3,7 +3,7 @@
 ghost use Rattle.std.specs.Prelude.{ℕ, ◌≡◌, ◌<◌, ◌↔◌, IsTrue, IfSome, IfNone, length};
 ghost use Rattle.role_order.specs.Lists.{Each};
 ghost use Rattle.arbac_policy.specs.Truth.{term_of, IsKnown};
-ghost use Rattle.arbac_policy.specs.Rules.{IsPolicy, IsKnownRange, IsKnownAssign, IsKnownRevoke, IsKnownPair};
+ghost use Rattle.arbac_policy.specs.Rules.{IsPolicy, AreCountable, policy_of, IsKnownRange, IsKnownAssign, IsKnownRevoke, IsKnownPair};
 
 use crate::cond::Cond;
 use crate::rule::{CanAssign, CanRevoke};
@@ -22,7 +22,7 @@ pub struct Policy {
 }
 
 impl Model for Policy {
-    ghost use Rattle.arbac_policy.specs.Rules.{Rules, IsPolicy};
+    ghost use Rattle.arbac_policy.specs.Rules.{Rules, IsPolicy, AreCountable};
     ghost use Rattle.arbac_policy.specs.contracts.cond.Cond as e;
     ghost use Rattle.std.specs.Coded.{codes};
 
@@ -34,7 +34,7 @@ impl Model for Policy {
 
     ghost view = { rules_of };
 
-    ghost invariant = { λ p. IsPolicy (rules_of p) };
+    ghost invariant = { λ p. IsPolicy (rules_of p) × AreCountable (rules_of p) };
 }
 
 fn is_known(count: u16, cond: &Cond) -> bool
@@ -89,11 +89,17 @@ fn are_known_revokes(count: u16, rules: &[CanRevoke]) -> bool
     true
 }
 
+fn is_known_pair(count: u16, pair: (u16, u16)) -> bool
+    ensures { IsTrue result ↔ IsKnownPair count pair }
+{
+    pair.0 < count && pair.1 < count
+}
+
 fn are_known_pairs(count: u16, pairs: &[(u16, u16)]) -> bool
     ensures { IsTrue result ↔ Each (IsKnownPair count) pairs.now }
 {
-    for &(first, second) in pairs {
-        if first >= count || second >= count {
+    for &pair in pairs {
+        if !is_known_pair(count, pair) {
             return false;
         }
     }
@@ -110,6 +116,7 @@ impl Policy {
         revokep: Vec<CanRevoke>,
         exclusive: Vec<(u16, u16)>,
     ) -> Option<Policy>
+        requires few { AreCountable (policy_of order assign.items revoke.items assignp.items revokep.items exclusive.items) }
         ensures parts { IfSome result (λ policy. policy ≡ record {
           order = order;
           assign = assign.items;
@@ -152,6 +159,7 @@ impl Policy {
     pub fn order(&self) -> &Order
         ensures order { result.now ≡ self.now.order }
         ensures known { IsPolicy self.now }
+        ensures few { AreCountable self.now }
     {
         &self.order
     }

@@ -1,9 +1,10 @@
 //! Membership, and the truth of conditions.
 
 ghost use Rattle.std.specs.Prelude.{ℕ, ◌≡◌, ◌<◌, ◌↔◌, IsTrue, length};
-ghost use Rattle.arbac_policy.specs.Truth.{IsMember, IsPermMember, Satisfies, term_of, IsKnown, user, permission};
+ghost use Rattle.arbac_policy.specs.Truth.{IsMember, IsPermMember, Satisfies, term_of, IsKnown, Holder, user, permission};
 
 use crate::cond::Cond;
+use crate::holder::On;
 use role_order::{Order, RoleSet};
 
 /// Whether a user with the set is a member of the role.
@@ -51,5 +52,16 @@ pub fn holds_perm(order: &Order, cond: &Cond, set: &RoleSet) -> bool
         Cond::Or(left, right) => {
             holds_perm(order, left.get(), set) || holds_perm(order, right.get(), set)
         }
+    }
+}
+
+/// Whether the condition is true of a user or a permission with the set.
+pub fn is_true(on: On, order: &Order, cond: &Cond, set: &RoleSet) -> bool
+    requires { IsKnown (length order.now.names) (term_of cond.now) }
+    ensures { IsTrue result ↔ Satisfies on order.now.edges set.now (term_of cond.now) }
+{
+    match on {
+        On::User => holds(order, cond, set),
+        On::Permission => holds_perm(order, cond, set),
     }
 }

@@ -1,17 +1,16 @@
-use Rattle.std.proofs.Common.{rules, ℕ, ◌≡◌, ◌<◌, ◌↔◌, IsTrue, IfSome, IfNone, length, ◌+◌, ◌-◌, ◌*◌, ◌≤◌, ◌/◌, ◌%◌, Bool, true, false, nat_eq, nat_lt, List, [], ◌∷◌, ◌++◌, slice_index_or, slice_set, bit_and, bit_or, Fits, w8, w32, w64, Bor, MutBor}
-use Rattle.role_order.specs.Lists.{Each}
-use Rattle.arbac_policy.specs.Truth.{term_of, IsKnown}
-use Rattle.arbac_policy.specs.Rules.{IsPolicy, IsKnownRange, IsKnownAssign, IsKnownRevoke, IsKnownPair}
+use Rattle.std.proofs.Common.{◌≡◌, ◌∙◌, ◌<◌, ap, sym, arith, length, Some, refl}
+use Rattle.std.specs.Prelude.{slice_get}
+use Rattle.std.proofs.lemmas.Bool.{false≢true}
+use Rattle.role_order.proofs.ListLemmas.{each_of, each_at, get_at, get_within, below_more}
+use Rattle.arbac_policy.specs.Rules.{IsKnownAssign}
 use Rattle.arbac_policy.proofs.policy.are_known_assigns.Goals as goal
 
--- src/policy.rt:73:5
-pub loop-rule-init : goal.loop-rule-init
-loop-rule-init c = ?
-
--- src/policy.rt:73:5
-pub loop-rule-preserved : goal.loop-rule-preserved
-loop-rule-preserved c = ?
-
--- src/policy.rt:70:1
 pub returns : goal.returns
-returns c = ?
+returns c = (
+  λ h. each_of (IsKnownAssign c.args.count) c.args.rules.now (λ k rule e. c.loop-rule.invariant k rule (omega (arith, (get_within c.args.rules.now k rule e).0)) e),
+  λ h. refl,
+)
+
+pub loop-rule-preserved : goal.loop-rule-preserved
+loop-rule-preserved c = below_more (IsKnownAssign c.args.count) c.args.rules.now c.loop-rule.rule-index c.rule-item.result c.loop-rule.invariant
+    (get_at c.args.rules.now c.loop-rule.rule-index c.rule-item.result c.loop-rule-test.true ∙ ap Some (sym c.rule-item.is)) (c.is_known_assign.ensures.0 c.if-not-is_known_assign.false)

@@ -1,8 +1,8 @@
-use Rattle.std.proofs.Common.{ℕ, ◌≡◌, ◌<◌, ◌↔◌, IsTrue, IfSome, IfNone, length, ◌+◌, ◌-◌, ◌*◌, ◌≤◌}
-use Rattle.role_order.specs.Lists.{Each}
-use Rattle.arbac_policy.specs.Truth.{term_of, IsKnown}
-use Rattle.arbac_policy.specs.Rules.{IsPolicy, IsKnownRange, IsKnownAssign, IsKnownRevoke, IsKnownPair}
+use Rattle.std.proofs.Common.{ℕ, ◌≡◌, ◌<◌, Some}
+use Rattle.std.specs.Prelude.{slice_get}
+use Rattle.arbac_policy.specs.declared.rule.CanAssign.{CanAssign}
+use Rattle.arbac_policy.specs.Rules.{IsKnownAssign}
 use Rattle.arbac_policy.proofs.policy.are_known_assigns.Given as goal
 
 abbrev pub invariant-loop-rule : goal.invariant-loop-rule
-invariant-loop-rule l = ?
+invariant-loop-rule l = (k : ℕ) (rule : CanAssign) → k < l.rule-index → slice_get l.rules k ≡ Some rule → IsKnownAssign l.count rule

@@ -1,8 +1,7 @@
-use Rattle.std.proofs.Common.{ℕ, ◌≡◌, ◌<◌, ◌↔◌, IsTrue, IfSome, IfNone, length, ◌+◌, ◌-◌, ◌*◌, ◌≤◌}
-use Rattle.role_order.specs.Lists.{Each}
-use Rattle.arbac_policy.specs.Truth.{term_of, IsKnown}
-use Rattle.arbac_policy.specs.Rules.{IsPolicy, IsKnownRange, IsKnownAssign, IsKnownRevoke, IsKnownPair}
+use Rattle.std.proofs.Common.{ℕ, ◌≡◌, ◌<◌, Some}
+use Rattle.std.specs.Prelude.{slice_get}
+use Rattle.arbac_policy.specs.Rules.{IsKnownPair}
 use Rattle.arbac_policy.proofs.policy.are_known_pairs.Given as goal
 
-abbrev pub invariant-loop-first : goal.invariant-loop-first
-invariant-loop-first l = ?
+abbrev pub invariant-loop-pair : goal.invariant-loop-pair
+invariant-loop-pair l = (k : ℕ) (pair : ℕ × ℕ) → k < l.pair-index → slice_get l.pairs k ≡ Some pair → IsKnownPair l.count pair

@@ -1,17 +1,12 @@
-use Rattle.std.proofs.Common.{rules, ℕ, ◌≡◌, ◌<◌, ◌↔◌, IsTrue, IfSome, IfNone, length, ◌+◌, ◌-◌, ◌*◌, ◌≤◌, ◌/◌, ◌%◌, Bool, true, false, nat_eq, nat_lt, List, [], ◌∷◌, ◌++◌, slice_index_or, slice_set, bit_and, bit_or, Fits, w8, w32, w64, Bor, MutBor}
-use Rattle.role_order.specs.Lists.{Each}
-use Rattle.arbac_policy.specs.Truth.{term_of, IsKnown}
-use Rattle.arbac_policy.specs.Rules.{IsPolicy, IsKnownRange, IsKnownAssign, IsKnownRevoke, IsKnownPair}
+use Rattle.std.proofs.Common.{◌≡◌, ◌∙◌, ◌<◌, ap, sym, arith, length, Some, refl}
+use Rattle.std.specs.Prelude.{slice_get}
+use Rattle.std.proofs.lemmas.Bool.{false≢true}
+use Rattle.role_order.proofs.ListLemmas.{each_of, each_at, get_at, get_within, below_more}
+use Rattle.arbac_policy.specs.Rules.{IsKnownRevoke}
 use Rattle.arbac_policy.proofs.policy.are_known_revokes.Goals as goal
 
--- src/policy.rt:84:5
-pub loop-rule-init : goal.loop-rule-init
-loop-rule-init c = ?
-
--- src/policy.rt:84:5
-pub loop-rule-preserved : goal.loop-rule-preserved
-loop-rule-preserved c = ?
-
--- src/policy.rt:81:1
 pub returns : goal.returns
-returns c = ?
+returns c = (
+  λ h. each_of (IsKnownRevoke c.args.count) c.args.rules.now (λ k rule e. c.loop-rule.invariant k rule (omega (arith, (get_within c.args.rules.now k rule e).0)) e),
+  λ h. refl,
+)

@@ -1,7 +1,10 @@
-use Rattle.std.proofs.Common.{rules, ℕ, ◌≡◌, ◌<◌, ◌↔◌, IsTrue, length, ◌+◌, ◌-◌, ◌*◌, ◌≤◌, ◌/◌, ◌%◌, Bool, true, false, nat_eq, nat_lt, List, [], ◌∷◌, ◌++◌, slice_index_or, slice_set, bit_and, bit_or, Fits, w8, w32, w64, Bor, MutBor}
-use Rattle.arbac_policy.specs.Truth.{IsMember, IsPermMember, Satisfies, term_of, IsKnown, user, permission}
+use Rattle.std.proofs.Common.{◌≡◌, ◌∙◌, sym}
+use Rattle.role_order.specs.Roles.{IsIn}
+use Rattle.arbac_policy.proofs.MemberLemmas.{common_role, common_of}
 use Rattle.arbac_policy.proofs.truth.is_perm_member.Goals as goal
 
--- src/truth.rt:18:1
 pub returns : goal.returns
-returns c = ?
+returns c = (
+  λ h. let r = common_role c.args.set.now c.juniors.result (sym c.meets.ensures ∙ h) in (r.0, r.1, (c.juniors.ensures.each r.0).0 r.2),
+  λ member. c.meets.ensures ∙ common_of c.args.set.now c.juniors.result member.0 member.1 ((c.juniors.ensures.each member.0).1 member.2),
+)
