@@ -1,10 +1,19 @@
-//! Laws of requirements: cover, pre-images, closed lists, normal forms and barriers.
+//! Laws of requirements: cover, conjuncts, pre-images, closed lists, normal forms and barriers.
+//! Each function computes nothing; its clauses are the laws.
 #![tactic(auto)]
 
-ghost use Rattle.std.specs.Prelude.{◌≡◌};
-ghost use Rattle.arbac_laws.specs.Rows.{mix};
+mod closed;
+mod conjuncts;
+mod cover;
+mod goals;
+mod normal_forms;
+mod places;
+mod pre_images;
 
-/// A small policy, worked.
-pub fn worked_rows()
-    ensures goals { mix ≡ mix }
-{}
+pub use closed::closed_laws;
+pub use conjuncts::conjunct_laws;
+pub use cover::cover_laws;
+pub use goals::goal_laws;
+pub use normal_forms::normal_laws;
+pub use places::{deficient_laws, place_laws};
+pub use pre_images::{backward_laws, forward_laws, obligation_laws};
