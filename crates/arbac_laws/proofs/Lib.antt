@@ -8,6 +8,7 @@ pub mod TargetLemmas
 pub mod StepLemmas
 pub mod GoalLemmas
 pub mod ClosedLemmas
+pub mod FlatLemmas
 pub mod ObligationLemmas
 pub mod OrderLemmas
 pub mod CountLemmas
@@ -16,3 +17,4 @@ pub mod SortLemmas
 pub mod NormalLemmas
 pub mod PlaceLemmas
 pub mod DeficientLemmas
+pub mod BarrierLemmas

@@ -2,6 +2,7 @@
 //! Each function computes nothing; its clauses are the laws.
 #![tactic(auto)]
 
+mod barriers;
 mod closed;
 mod conjuncts;
 mod cover;
@@ -10,6 +11,7 @@ mod normal_forms;
 mod places;
 mod pre_images;
 
+pub use barriers::barrier_laws;
 pub use closed::closed_laws;
 pub use conjuncts::conjunct_laws;
 pub use cover::cover_laws;
