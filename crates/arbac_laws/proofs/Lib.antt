@@ -18,3 +18,4 @@ pub mod NormalLemmas
 pub mod PlaceLemmas
 pub mod DeficientLemmas
 pub mod BarrierLemmas
+pub mod RowLemmas

@@ -131,3 +131,7 @@ embeds_swap {A} R own x y zs = record { to = to; apart = apart; each = each }
     each zero v is = (v, is, own v)
     each (suc zero) v is = (v, is, own v)
     each (suc (suc i)) v is = (v, is, own v)
+
+-- nothing stands to anything
+pub embeds_none : {A B : Type 0} (R : A → B → Type 0) (ys : List B) → Embeds R [] ys
+embeds_none R ys = record { to = λ i. i; apart = λ i j l m e. e; each = λ i x is. cc }

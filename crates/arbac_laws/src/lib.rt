@@ -10,6 +10,7 @@ mod goals;
 mod normal_forms;
 mod places;
 mod pre_images;
+mod rows;
 
 pub use barriers::barrier_laws;
 pub use closed::closed_laws;
@@ -19,3 +20,4 @@ pub use goals::goal_laws;
 pub use normal_forms::normal_laws;
 pub use places::{deficient_laws, place_laws};
 pub use pre_images::{backward_laws, forward_laws, obligation_laws};
+pub use rows::{closed_row, worked_rows};
