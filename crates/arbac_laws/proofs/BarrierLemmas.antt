@@ -20,13 +20,11 @@ use Rattle.arbac_laws.specs.Needs.{Covers, CoversNeed, HasHits, IsCovered, Meets
 use Rattle.arbac_laws.specs.Obligations.{Obligation, obligations, pre_image}
 use Rattle.arbac_laws.specs.PreImages.{AssignObligation, IsPick, Pick, WeakObligation, add_hit, assign_pre_image, barred, is_barred, is_empty, weak_pre_image, with_admin, itself, other, fresh}
 use Rattle.arbac_laws.proofs.ConjunctLemmas.{AreSeniors}
-use Rattle.arbac_laws.proofs.DeficientLemmas.{few}
-use Rattle.arbac_laws.proofs.FlatLemmas.{in_range}
 use Rattle.arbac_laws.proofs.ListLemmas.{each_append, each_is, some_right, some_weaker}
 use Rattle.arbac_laws.proofs.ObligationLemmas.{IsAssigning, IsRevoking, in_parts}
 use Rattle.arbac_laws.proofs.OrderLemmas.{count, not_true}
 use Rattle.arbac_laws.proofs.RoleLemmas.{cases_in, less_in}
-use Rattle.arbac_laws.proofs.TargetLemmas.{given, some_cond}
+use Rattle.arbac_laws.proofs.TargetLemmas.{some_cond}
 
 pub in_outside : (count : ℕ) (set : List ℕ) (role : ℕ) → role < count → IsOut set role → IsIn (outside count set) role
 in_outside count set role l o = has_role-filter (λ r. not (has_role set r)) (count_up 0 count) role

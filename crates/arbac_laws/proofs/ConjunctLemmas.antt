@@ -1,5 +1,5 @@
 -- A set satisfies a condition exactly where it meets a conjunct.
-use Rattle.std.proofs.Common.{ℕ, List, [], ◌∷◌, cond, inl, inr}
+use Rattle.std.proofs.Common.{ℕ, List, [], ◌∷◌, inl, inr}
 use Rattle.std.specs.Prelude.{◌⊎◌}
 use Rattle.role_order.specs.Graph.{Graph}
 use Rattle.role_order.specs.Lists.{Some_of}

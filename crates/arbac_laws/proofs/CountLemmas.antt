@@ -1,5 +1,5 @@
 -- An injective map counts: what its end has of a kind is as much or more.
-use Rattle.std.proofs.Common.{ℕ, ◌≡◌, ◌<◌, ◌≤◌, ◌+◌, List, [], ◌∷◌, length, map, Some, arith, zero, suc, ◌∙◌, ap, Bool, true, false, cond, refl}
+use Rattle.std.proofs.Common.{ℕ, ◌≡◌, ◌<◌, ◌≤◌, ◌+◌, List, [], ◌∷◌, length, Some, arith, zero, suc, ◌∙◌, ap, Bool, true, false, cond, refl}
 use Rattle.std.specs.Prelude.{slice_get, pred}
 use Rattle.role_order.specs.Lists.{Each}
 use Rattle.arbac_policy.specs.Embeds.{Embeds}

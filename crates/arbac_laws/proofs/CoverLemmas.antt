@@ -3,9 +3,8 @@ use Rattle.std.proofs.Common.{ℕ, ◌≡◌, List, [], ◌∷◌, Bool, true, f
 use Rattle.std.specs.Prelude.{◌⊎◌}
 use Rattle.role_order.specs.Lists.{Each, Some_of}
 use Rattle.role_order.specs.Roles.{HaveCommon, IsIn, IsOut, IsWithin, has_role, less_roles}
-use Rattle.arbac_laws.specs.Barriers.{outside}
 use Rattle.arbac_laws.specs.Needs.{Covers, CoversNeed, IsCovered, IsPossible, Meets, MeetsNeed, Need}
-use Rattle.arbac_laws.proofs.ListLemmas.{each_from_get, each_own, each_weaker, some_each, some_weaker}
+use Rattle.arbac_laws.proofs.ListLemmas.{each_from_get, each_weaker, some_each, some_weaker}
 use Rattle.arbac_laws.proofs.MapLemmas.{compose}
 use Rattle.arbac_laws.proofs.RoleLemmas.{cases_in, in_less, less_in, less_out}
 

@@ -5,7 +5,6 @@ use Rattle.arbac_policy.specs.Embeds.{Embeds}
 use Rattle.arbac_laws.specs.Places.{AreDifferent, OnlyAmong}
 use Rattle.arbac_laws.proofs.ListLemmas.{each_by, each_some}
 use Rattle.arbac_laws.proofs.MapLemmas.{get_there}
-use Rattle.arbac_laws.proofs.TargetLemmas.{taken}
 use Rattle.arbac_laws.specs.Places.{AreDeficient}
 
 -- one item taken out of a list, and the others that are still in it

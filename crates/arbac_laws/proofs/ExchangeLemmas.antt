@@ -1,5 +1,5 @@
 -- What a population meets before and after one user's set is exchanged.
-use Rattle.std.proofs.Common.{ℕ, ◌≡◌, ◌<◌, List, [], ◌∷◌, ◌++◌, length, map, Some, arith, zero, suc, sym, ◌∙◌, ap, eqb, cond, subst, refl, inl, inr}
+use Rattle.std.proofs.Common.{ℕ, ◌≡◌, ◌<◌, List, [], ◌∷◌, ◌++◌, length, Some, arith, zero, suc, sym, ◌∙◌, ap, eqb, cond, subst, refl, inl, inr}
 use Rattle.std.specs.Prelude.{slice_get, slice_set, ◌⊎◌}
 use Rattle.std.proofs.lemmas.Bool.{eq-eqb, ne_eqb}
 use Rattle.role_order.specs.Roles.{HaveCommon}

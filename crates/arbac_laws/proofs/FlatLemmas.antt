@@ -1,6 +1,6 @@
 -- What is in the lists that the list of obligations is made of.
-use Rattle.std.proofs.Common.{ℕ, ◌≡◌, ◌<◌, ◌+◌, List, [], ◌∷◌, length, map, Some, None, Option, arith, zero, suc, sym, ◌∙◌, ap, eqb, Bool, true, false, not, ◌||◌, ◌&&◌, cond, subst, refl, inl, inr}
-use Rattle.std.specs.Prelude.{slice_get, slice_set, ◌⊎◌, filter}
+use Rattle.std.proofs.Common.{ℕ, ◌≡◌, ◌<◌, ◌+◌, List, [], ◌∷◌, length, map, Some, arith, zero, suc, sym, ◌∙◌, ap, eqb, Bool, true, false, not, ◌||◌, ◌&&◌, cond, subst, refl, inl, inr}
+use Rattle.std.specs.Prelude.{slice_get, ◌⊎◌, filter}
 use Rattle.std.proofs.lemmas.Bool.{eq-eqb, ne_eqb}
 use Rattle.std.specs.List.{list_any}
 use Rattle.role_order.proofs.SetLemmas.{and_both}
@@ -9,24 +9,11 @@ use Rattle.role_order.specs.Ranges.{IsInRange}
 use Rattle.role_order.specs.Reach.{count_up, seniors_of}
 use Rattle.role_order.specs.Roles.{IsIn, has_role}
 use Rattle.role_order.specs.declared.range.Range.{Range}
-use Rattle.arbac_policy.specs.Goals.{IsReachable}
 use Rattle.arbac_policy.specs.Rules.{Rules}
-use Rattle.arbac_policy.specs.Steps.{AssignStep, Step, WeakStep}
-use Rattle.arbac_policy.specs.Truth.{Term, term_of, user}
-use Rattle.arbac_policy.specs.declared.profile.Profile.{Profile}
-use Rattle.arbac_policy.specs.declared.rule.CanAssign.{CanAssign}
-use Rattle.arbac_policy.specs.declared.rule.CanRevoke.{CanRevoke}
-use Rattle.arbac_laws.specs.Closed.{IsClosed, IsClosedList}
-use Rattle.arbac_laws.specs.Conjuncts.{conjuncts}
-use Rattle.arbac_laws.specs.Needs.{Meets, Need}
-use Rattle.arbac_laws.specs.Obligations.{Obligation, act_of, and_then, assign_obligations, flat, flat_places, if_wanted, is_in_range, obligations, picks, pre_image, roles_in, weak_obligations, assigns, revokes}
-use Rattle.arbac_laws.specs.PreImages.{AssignObligation, IsPick, Pick, WeakObligation, assign_pre_image, before_assign, before_weak, weak_pre_image, with_admin, itself, other, fresh}
-use Rattle.arbac_laws.proofs.ClosedLemmas.{not_reachable}
-use Rattle.arbac_laws.proofs.ListLemmas.{map_some, one_of_same, same_one_of, some_cases, some_left, some_map, some_right}
-use Rattle.arbac_laws.proofs.StepLemmas.{give_leads, given_back, take_leads, taken_back}
-use Rattle.arbac_laws.proofs.TargetLemmas.{given, taken}
+use Rattle.arbac_laws.specs.Obligations.{flat, flat_places, if_wanted, is_in_range, picks, roles_in}
+use Rattle.arbac_laws.specs.PreImages.{IsPick, Pick, itself, other, fresh}
+use Rattle.arbac_laws.proofs.ListLemmas.{map_some, some_cases, some_left, some_map, some_right}
 use Rattle.arbac_laws.proofs.ConjunctLemmas.{AreSeniors}
-use Rattle.arbac_laws.specs.Obligations.{wanting, barring}
 
 -- Some_of over the words that make lists
 

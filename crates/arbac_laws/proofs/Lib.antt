@@ -19,3 +19,5 @@ pub mod PlaceLemmas
 pub mod DeficientLemmas
 pub mod BarrierLemmas
 pub mod RowLemmas
+pub mod SetsLemmas
+pub mod RecordedLemmas

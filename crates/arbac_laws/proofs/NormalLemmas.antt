@@ -1,13 +1,13 @@
 -- The normal form covers the needs and is covered by them.
 use Rattle.std.proofs.Common.{ℕ, ◌≡◌, ◌<◌, ◌≤◌, ◌+◌, List, [], ◌∷◌, map, Some, None, arith, zero, suc, sym, ap, Bool, true, false, not, ◌||◌, cond, subst, refl, inl, inr}
-use Rattle.std.specs.Prelude.{◌↔◌, nat_lt}
+use Rattle.std.specs.Prelude.{◌↔◌}
 use Rattle.std.proofs.lemmas.Bool.{eq-eqb}
 use Rattle.std.specs.List.{list_any}
 use Rattle.role_order.proofs.SetLemmas.{and_both, both_true}
 use Rattle.role_order.specs.Lists.{Each, Some_of}
 use Rattle.role_order.specs.Roles.{AreApart, IsIn, IsOut, IsWithin, has_role, is_within, less_roles}
 use Rattle.arbac_laws.specs.Needs.{Covers, CoversNeed, IsCovered, IsPossible, Need}
-use Rattle.arbac_laws.specs.NormalForms.{AreRising, AreSets, IsNormal, IsNormalNeed, bare_hits, insert_by, is_impossible, is_less, least_hits, need_before, normal_form, normal_need, set_before, sort_by}
+use Rattle.arbac_laws.specs.NormalForms.{AreSets, IsNormal, IsNormalNeed, bare_hits, insert_by, is_impossible, is_less, least_hits, need_before, normal_form, normal_need, set_before, sort_by}
 use Rattle.arbac_laws.specs.PreImages.{is_empty}
 use Rattle.arbac_laws.proofs.CoverLemmas.{covers_itself, covers_need}
 use Rattle.arbac_laws.proofs.ListLemmas.{each_by, each_some, one_some, some_one, some_weaker}
@@ -15,7 +15,7 @@ use Rattle.arbac_laws.proofs.MapLemmas.{compose, embeds_front, embeds_itself, em
 use Rattle.arbac_laws.proofs.OrderLemmas.{count, need_order, not_false, not_true, set_order}
 use Rattle.arbac_laws.proofs.RoleLemmas.{in_less, less_in, less_out}
 use Rattle.arbac_laws.proofs.SameLemmas.{any_of, is_within_of, of_any, same_roles, within_is}
-use Rattle.arbac_laws.proofs.SortLemmas.{filter_in, filter_rises, in_filter, in_sort, sort_by_in, sort_in, sort_rises, sort_sorted}
+use Rattle.arbac_laws.proofs.SortLemmas.{filter_in, in_filter, in_sort, sort_by_in, sort_in, sort_rises, sort_sorted}
 use Rattle.role_order.specs.Roles.{Rises}
 use Rattle.role_order.proofs.SetLemmas.{rises-filter}
 use Rattle.arbac_laws.specs.NormalForms.{normal_form}

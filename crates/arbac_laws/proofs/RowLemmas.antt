@@ -21,7 +21,6 @@ use Rattle.arbac_laws.specs.Rows.{mix, adm, c, hits, without, anyone, one_admin,
 use Rattle.arbac_laws.proofs.BarrierLemmas.{drawn_profile}
 use Rattle.arbac_laws.proofs.CountLemmas.{embeds_long}
 use Rattle.arbac_laws.proofs.CoverLemmas.{covers_itself}
-use Rattle.arbac_laws.proofs.DeficientLemmas.{few}
 use Rattle.arbac_laws.proofs.ListLemmas.{each_is}
 use Rattle.arbac_laws.proofs.MapLemmas.{embeds_front, embeds_itself, embeds_none, same_some}
 use Rattle.arbac_laws.proofs.NormalLemmas.{covered_alike, none_impossible}

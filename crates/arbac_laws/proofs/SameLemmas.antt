@@ -1,17 +1,17 @@
 -- Two normal forms that cover each other are equal.
 use Rattle.std.proofs.Common.{ℕ, ◌≡◌, ◌≤◌, ◌+◌, List, [], ◌∷◌, arith, sym, ◌∙◌, ap, eqb, Bool, true, false, not, ◌&&◌, cond, subst, refl, inl, inr}
-use Rattle.std.specs.Prelude.{◌⊎◌, nat_lt}
+use Rattle.std.specs.Prelude.{◌⊎◌}
 use Rattle.std.proofs.lemmas.Bool.{eqb-true, eq-eqb}
 use Rattle.std.specs.List.{list_any, list_all}
 use Rattle.role_order.proofs.SetLemmas.{and_both, both_true, or_cases, or_right}
 use Rattle.role_order.specs.Lists.{Each, Some_of}
 use Rattle.role_order.specs.Roles.{AreApart, IsIn, IsOut, IsWithin, has_role, is_within, less_roles}
 use Rattle.arbac_laws.specs.Needs.{Covers, CoversNeed, Need}
-use Rattle.arbac_laws.specs.NormalForms.{AreRising, IsNormal, IsNormalNeed, need_before, set_before}
+use Rattle.arbac_laws.specs.NormalForms.{IsNormal, IsNormalNeed, need_before, set_before}
 use Rattle.arbac_laws.proofs.CountLemmas.{counted, embeds_with}
 use Rattle.arbac_laws.proofs.CoverLemmas.{covers_itself, covers_need}
 use Rattle.arbac_laws.proofs.ListLemmas.{each_own, each_some, each_weaker, some_each}
-use Rattle.arbac_laws.proofs.OrderLemmas.{AreIn, count, is_same, need_order, not_false, not_true, number_order, rising_same, same_itself, set_order, sorted_same}
+use Rattle.arbac_laws.proofs.OrderLemmas.{AreIn, count, is_same, need_order, not_false, not_true, rising_same, same_itself, set_order, sorted_same}
 use Rattle.arbac_laws.proofs.RoleLemmas.{cases_in, in_less}
 use Rattle.role_order.specs.Roles.{Rises}
 use Rattle.role_order.proofs.SetLemmas.{same_set, same_test}

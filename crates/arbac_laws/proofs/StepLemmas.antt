@@ -1,5 +1,5 @@
 -- Steps and what must be met before them, both ways.
-use Rattle.std.proofs.Common.{ℕ, ◌≡◌, ◌<◌, List, [], ◌∷◌, length, map, Some, arith, sym, ◌∙◌, ap, cond, subst, refl, inl, inr}
+use Rattle.std.proofs.Common.{ℕ, ◌≡◌, ◌<◌, List, [], ◌∷◌, length, Some, arith, sym, ◌∙◌, ap, subst, refl, inl, inr}
 use Rattle.std.specs.Prelude.{slice_get, slice_set, ◌⊎◌}
 use Rattle.role_order.specs.Lists.{IsOneOf, Some_of}
 use Rattle.role_order.specs.Reach.{seniors_of}

@@ -1,5 +1,5 @@
 -- Barriers: the roles that no run gives to anyone.
-use Rattle.std.specs.Prelude.{ℕ, ◌≡◌, ◌<◌, not, if◌then◌else◌, List, [], ◌∷◌, filter, Some}
+use Rattle.std.specs.Prelude.{ℕ, ◌≡◌, not, if◌then◌else◌, List, [], ◌∷◌, filter, Some}
 use Rattle.role_order.specs.Lists.{IsOneOf}
 use Rattle.role_order.specs.Roles.{has_role, IsIn, IsWithin, HaveCommon}
 use Rattle.role_order.specs.Reach.{count_up, seniors_of}

@@ -1,5 +1,5 @@
 -- The conjuncts of a condition.
-use Rattle.std.specs.Prelude.{ℕ, List, [], ◌∷◌, ◌++◌}
+use Rattle.std.specs.Prelude.{List, [], ◌∷◌, ◌++◌}
 use Rattle.role_order.specs.Roles.{join_roles}
 use Rattle.role_order.specs.Graph.{Graph}
 use Rattle.role_order.specs.Reach.{seniors_of}

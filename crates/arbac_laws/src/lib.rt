@@ -10,7 +10,9 @@ mod goals;
 mod normal_forms;
 mod places;
 mod pre_images;
+mod recorded;
 mod rows;
+mod sets;
 
 pub use barriers::barrier_laws;
 pub use closed::closed_laws;
@@ -20,4 +22,6 @@ pub use goals::goal_laws;
 pub use normal_forms::normal_laws;
 pub use places::{deficient_laws, place_laws};
 pub use pre_images::{backward_laws, forward_laws, obligation_laws};
+pub use recorded::recorded_laws;
 pub use rows::{closed_row, worked_rows};
+pub use sets::set_laws;

@@ -1,4 +1,4 @@
-use Rattle.std.proofs.Common.{List, [], ◌∷◌}
+use Rattle.std.proofs.Common.{[], ◌∷◌}
 use Rattle.arbac_policy.specs.Truth.{has}
 use Rattle.arbac_laws.specs.Rows.{mix, c, one_admin, mix_needs}
 use Rattle.arbac_laws.proofs.ConjunctLemmas.{are_seniors}
