@@ -138,9 +138,9 @@ roles_below rules same ends policy = record {
 
 -- pre-images of the barrier
 
-pub give_covered : (rules : Rules) (profiles : List Profile) (set : List ℕ) → HasGains rules profiles set → AreRolesBelow rules
+pub assign_covered : (rules : Rules) (profiles : List Profile) (set : List ℕ) → HasGains rules profiles set → AreRolesBelow rules
     → (ob : AssignObligation rules (barrier (length rules.order.names) set)) → Covers (barrier (length rules.order.names) set) (assign_pre_image ob)
-give_covered rules profiles set ceiling below ob = by_place ob.target ob.need_is ob.is_pick
+assign_covered rules profiles set ceiling below ob = by_place ob.target ob.need_is ob.is_pick
   where
     wall : Need
     wall = record { hits = outside (length rules.order.names) set ∷ []; lacks = [] }
@@ -216,8 +216,8 @@ barrier_unmet rules profiles set ceiling users drawn f =
     outside_out (length rules.order.names) set common.0 common.1
     (ceiling.drawn d.1 (d.0, d.2) (λ none. let few = drawn.drawn.few d.0 d.1 0 d.2 none in let l = d.4 in omega (arith, few, l)) common.0 (subst (λ s. IsIn s common.0) d.3 common.2))
 
-pub take_covered : (rules : Rules) (set : List ℕ) → (ob : WeakObligation rules (barrier (length rules.order.names) set)) → Covers (barrier (length rules.order.names) set) (weak_pre_image ob)
-take_covered rules set ob = absurd (by_place ob.target ob.need_is)
+pub weak_covered : (rules : Rules) (set : List ℕ) → (ob : WeakObligation rules (barrier (length rules.order.names) set)) → Covers (barrier (length rules.order.names) set) (weak_pre_image ob)
+weak_covered rules set ob = absurd (by_place ob.target ob.need_is)
   where
     wall : Need
     wall = record { hits = outside (length rules.order.names) set ∷ []; lacks = [] }
@@ -251,8 +251,8 @@ barriers_closed rules same ends policy profiles set gains needs is =
     count = length rules.order.names
 
     by_parts : {ob : Obligation} (before : List Need) → IsAssigning rules (barrier count set) ob before ⊎ IsRevoking rules (barrier count set) ob before → Covers (barrier count set) before
-    by_parts before (inl p) = subst (Covers (barrier count set)) p.image (give_covered rules profiles set gains (roles_below rules same ends policy) p.parts)
-    by_parts before (inr p) = subst (Covers (barrier count set)) p.image (take_covered rules set p.parts)
+    by_parts before (inl p) = subst (Covers (barrier count set)) p.image (assign_covered rules profiles set gains (roles_below rules same ends policy) p.parts)
+    by_parts before (inr p) = subst (Covers (barrier count set)) p.image (weak_covered rules set p.parts)
 
 pub barriers_unmet : (rules : Rules) (profiles : List Profile) (set : List ℕ) → HasGains rules profiles set → (needs : List Need) → IsOneOf (barriers (length rules.order.names) set) needs → IsUnmet profiles needs
 barriers_unmet rules profiles set gains needs is users drawn met =

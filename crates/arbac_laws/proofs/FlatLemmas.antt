@@ -149,17 +149,17 @@ wanted_some P false place h = absurd h
 
 -- administrators
 
-pub some_admin : (P : Pick → Type 0) (target count : ℕ) (pick : Pick) → IsPick pick target count → P pick → Some_of P (picks target count)
-some_admin P target count itself is p = inl p
-some_admin P target count (other place) is p =
+pub some_pick : (P : Pick → Type 0) (target count : ℕ) (pick : Pick) → IsPick pick target count → P pick → Some_of P (picks target count)
+some_pick P target count itself is p = inl p
+some_pick P target count (other place) is p =
     inr (some_left P (map other (filter (λ j. not (eqb j target)) (count_up 0 count))) (fresh ∷ [])
     (some_map other P (filter (λ j. not (eqb j target)) (count_up 0 count))
     (some_filter (λ j. P (other j)) (λ j. not (eqb j target)) (count_up 0 count) place (in_count_0 count place is.0) (rw (ne_eqb place target is.1) refl) p)))
-some_admin P target count fresh is p = inr (some_right P (map other (filter (λ j. not (eqb j target)) (count_up 0 count))) (fresh ∷ []) (inl p))
+some_pick P target count fresh is p = inr (some_right P (map other (filter (λ j. not (eqb j target)) (count_up 0 count))) (fresh ∷ []) (inl p))
 
-pub admin_some : (P : Pick → Type 0) (target count : ℕ) → Some_of P (picks target count) → (pick : Pick) × IsPick pick target count × P pick
-admin_some P target count (inl p) = (itself, tt, p)
-admin_some P target count (inr h) = by_side (some_cases P (map other (filter (λ j. not (eqb j target)) (count_up 0 count))) (fresh ∷ []) h)
+pub pick_some : (P : Pick → Type 0) (target count : ℕ) → Some_of P (picks target count) → (pick : Pick) × IsPick pick target count × P pick
+pick_some P target count (inl p) = (itself, tt, p)
+pick_some P target count (inr h) = by_side (some_cases P (map other (filter (λ j. not (eqb j target)) (count_up 0 count))) (fresh ∷ []) h)
   where
     differ : (j : ℕ) → not (eqb j target) ≡ true → j ≡ target → ⊥
     differ j t e = let yes' = eq-eqb j target e in let no' : not (eqb j target) ≡ false = rw yes' refl in cc

@@ -10,7 +10,7 @@ use Rattle.arbac_laws.specs.Goals.{before_each, goal_requirements}
 use Rattle.arbac_laws.specs.Needs.{IsPossible, Meets, MeetsNeed, Need}
 use Rattle.arbac_laws.proofs.ConjunctLemmas.{conjunct_met, met_conjunct}
 use Rattle.arbac_laws.proofs.CoverLemmas.{met_possible}
-use Rattle.arbac_laws.proofs.ListLemmas.{each_is, is_some, map_some, some_cases, some_is, some_left, some_map, some_right, some_weaker}
+use Rattle.arbac_laws.proofs.ListLemmas.{each_is, some_at, map_some, some_cases, some_item, some_left, some_map, some_right, some_weaker}
 use Rattle.arbac_laws.proofs.ConjunctLemmas.{AreSeniors}
 
 -- each item of the list is met where the map sends its place
@@ -110,7 +110,7 @@ pub goal_both : (order : Graph) → AreSeniors order → (goal : List Term) (use
 goal_both order same goal users = (
   λ g. some_weaker (λ needs. Meets users needs) (λ needs. IsPossible needs × Meets users needs) (λ needs m. (met_possible users needs m, m))
       (goal_requirements order goal) (goal_met_needs order same users goal g),
-  λ h. back (some_is (λ needs. IsPossible needs × Meets users needs) (goal_requirements order goal) h),
+  λ h. back (some_item (λ needs. IsPossible needs × Meets users needs) (goal_requirements order goal) h),
 )
   where
     back : (needs : List Need) × IsOneOf (goal_requirements order goal) needs × (IsPossible needs × Meets users needs) → GoalMet order.edges goal users
@@ -119,5 +119,5 @@ goal_both order same goal users = (
         record {
           to = one.2.1.to;
           apart = λ i j li lj e. one.2.1.apart i j (subst (λ n. i < n) (sym long) li) (subst (λ n. j < n) (sym long) lj) e;
-          each = ways_goal order same users one.2.1.to goal (is_some (IsWay users one.2.1.to (length goal)) (goal_requirements order goal) one.0 one.1 (long, one.2.1.each));
+          each = ways_goal order same users one.2.1.to goal (some_at (IsWay users one.2.1.to (length goal)) (goal_requirements order goal) one.0 one.1 (long, one.2.1.each));
         }

@@ -49,13 +49,13 @@ some_cases P (x ∷ xs) ys (inr h) = by_side (some_cases P xs ys h)
     by_side (inr k) = inr k
 
 -- which item it is
-pub some_is : {A : Type 0} (P : A → Type 0) (xs : List A) → Some_of P xs → (x : A) × IsOneOf xs x × P x
-some_is P [] h = absurd h
-some_is P (x ∷ xs) (inl h) = (x, (0, refl), h)
-some_is P (x ∷ xs) (inr h) = let r = some_is P xs h in (r.0, (suc r.1.0, r.1.1), r.2)
+pub some_item : {A : Type 0} (P : A → Type 0) (xs : List A) → Some_of P xs → (x : A) × IsOneOf xs x × P x
+some_item P [] h = absurd h
+some_item P (x ∷ xs) (inl h) = (x, (0, refl), h)
+some_item P (x ∷ xs) (inr h) = let r = some_item P xs h in (r.0, (suc r.1.0, r.1.1), r.2)
 
-pub is_some : {A : Type 0} (P : A → Type 0) (xs : List A) (x : A) → IsOneOf xs x → P x → Some_of P xs
-is_some P xs x i h = at_place P xs x i.0 i.1 h
+pub some_at : {A : Type 0} (P : A → Type 0) (xs : List A) (x : A) → IsOneOf xs x → P x → Some_of P xs
+some_at P xs x i h = at_place P xs x i.0 i.1 h
   where
     at_place : {A : Type 0} (P : A → Type 0) (xs : List A) (x : A) (i : ℕ) → slice_get xs i ≡ Some x → P x → Some_of P xs
     at_place P [] x i e h = cc
@@ -92,7 +92,7 @@ one_of_same (y ∷ ys) x (inl e) = (0, ap Some e)
 one_of_same (y ∷ ys) x (inr h) = let r = one_of_same ys x h in (suc r.0, r.1)
 
 pub same_one_of : {A : Type 0} (xs : List A) (x : A) → IsOneOf xs x → Some_of (λ y. y ≡ x) xs
-same_one_of xs x i = is_some (λ y. y ≡ x) xs x i refl
+same_one_of xs x i = some_at (λ y. y ≡ x) xs x i refl
 
 pub some_one : {A : Type 0} (P : A → Type 0) (xs : List A) → Some_of P xs → (x : A) × Some_of (λ (y : A). y ≡ x) xs × P x
 some_one P [] h = absurd h

@@ -7,7 +7,8 @@ use Rattle.role_order.proofs.SetLemmas.{and_both, both_true}
 use Rattle.role_order.specs.Lists.{Each, Some_of}
 use Rattle.role_order.specs.Roles.{AreApart, IsIn, IsOut, IsWithin, has_role, is_within, less_roles}
 use Rattle.arbac_laws.specs.Needs.{Covers, CoversNeed, IsCovered, IsPossible, Need}
-use Rattle.arbac_laws.specs.NormalForms.{AreSets, IsNormal, IsNormalNeed, bare_hits, insert_by, is_impossible, is_less, least_hits, need_before, normal_form, normal_need, set_before, sort_by}
+use Rattle.arbac_laws.specs.NormalForms.{AreSets, IsNormal, IsNormalNeed, bare_hits, insert_by, is_impossible, is_less, least_hits, normal_form, normal_need, sort_by}
+use Rattle.arbac_laws.specs.Orders.{need_before, set_before}
 use Rattle.arbac_laws.specs.PreImages.{is_empty}
 use Rattle.arbac_laws.proofs.CoverLemmas.{covers_itself, covers_need}
 use Rattle.arbac_laws.proofs.ListLemmas.{each_by, each_some, one_some, some_one, some_weaker}

@@ -5,16 +5,14 @@ use Rattle.std.proofs.lemmas.Bool.Decides.{nat_tests}
 use Rattle.role_order.proofs.SetLemmas.{and_both, or_cases, or_right}
 use Rattle.role_order.specs.Lists.{Each, Some_of}
 use Rattle.arbac_laws.specs.Needs.{Need}
-use Rattle.arbac_laws.specs.NormalForms.{AreRising, AreSorted, list_before, need_before, set_before}
+use Rattle.arbac_laws.specs.NormalForms.{AreRising, AreSorted}
+use Rattle.arbac_laws.specs.Orders.{list_before, need_before, set_before}
 use Rattle.arbac_laws.proofs.ListLemmas.{each_weaker, some_each}
-use Rattle.arbac_laws.specs.NormalForms.{hits_before}
+use Rattle.arbac_laws.specs.Orders.{hits_before}
+use Rattle.arbac_laws.specs.Orders.{IsTotalOrder, requirement_before}
+use Rattle.std.specs.Prelude.{length}
 
-pub record IsOrder {A : Type 0} (before : A → A → Bool) : Type 0 where
-  pub never : (x : A) → before x x ≡ true → ⊥
-  pub through : (x y z : A) → before x y ≡ true → before y z ≡ true → before x z ≡ true
-  pub total : (x y : A) → (before x y ≡ true) ⊎ ((x ≡ y) ⊎ (before y x ≡ true))
-
-pub number_order : IsOrder nat_lt
+pub number_order : IsTotalOrder nat_lt
 number_order = record {
   never = λ x h. let l : x < x = grind (arith, nat_tests) in omega arith;
   through = λ x y z h k. let l : x < z = grind (arith, nat_tests) in grind (arith, nat_tests);
@@ -32,7 +30,7 @@ number_order = record {
     by_number (suc x) zero = inr (inr (grind (arith, nat_tests)))
     by_number (suc x) (suc y) = lifted x y (by_number x y)
 
-pub not_both : {A : Type 0} (before : A → A → Bool) → IsOrder before → (x y : A) → before x y ≡ true → before y x ≡ true → ⊥
+pub not_both : {A : Type 0} (before : A → A → Bool) → IsTotalOrder before → (x y : A) → before x y ≡ true → before y x ≡ true → ⊥
 not_both before o x y h k = o.never x (o.through x y x h k)
 
 pub not_false : (b : Bool) → (b ≡ true → ⊥) → b ≡ false
@@ -44,7 +42,7 @@ not_true true h k = cc
 not_true false h k = cc
 
 -- first by one test, then by another
-pub then_view : {A : Type 0} (before : A → A → Bool) → IsOrder before → (x y : A) (rest : Bool) → (before x y || (not (before y x) && rest)) ≡ true → (before x y ≡ true) ⊎ ((x ≡ y) × (rest ≡ true))
+pub then_view : {A : Type 0} (before : A → A → Bool) → IsTotalOrder before → (x y : A) (rest : Bool) → (before x y || (not (before y x) && rest)) ≡ true → (before x y ≡ true) ⊎ ((x ≡ y) × (rest ≡ true))
 then_view before o x y rest h = by_case (or_cases (before x y) (not (before y x) && rest) h)
   where
     by_case : (before x y ≡ true) ⊎ ((not (before y x) && rest) ≡ true) → (before x y ≡ true) ⊎ ((x ≡ y) × (rest ≡ true))
@@ -59,12 +57,12 @@ then_view before o x y rest h = by_case (or_cases (before x y) (not (before y x)
 pub then_first : {A : Type 0} (before : A → A → Bool) → (x y : A) (rest : Bool) → before x y ≡ true → (before x y || (not (before y x) && rest)) ≡ true
 then_first before x y rest h = rw h refl
 
-pub then_rest : {A : Type 0} (before : A → A → Bool) → IsOrder before → (x y : A) (rest : Bool) → x ≡ y → rest ≡ true → (before x y || (not (before y x) && rest)) ≡ true
+pub then_rest : {A : Type 0} (before : A → A → Bool) → IsTotalOrder before → (x y : A) (rest : Bool) → x ≡ y → rest ≡ true → (before x y || (not (before y x) && rest)) ≡ true
 then_rest before o x y rest e r =
     let n : before y x ≡ false = not_false (before y x) (λ k. o.never x (subst (λ v. before v x ≡ true) (sym e) k)) in
     or_right (before x y) (not (before y x) && rest) (rw (n, r) refl)
 
-pub list_order : {A : Type 0} (before : A → A → Bool) → IsOrder before → IsOrder (list_before before)
+pub list_order : {A : Type 0} (before : A → A → Bool) → IsTotalOrder before → IsTotalOrder (list_before before)
 list_order {A} before o = record { never = never; through = through; total = total }
   where
     never : (xs : List A) → list_before before xs xs ≡ true → ⊥
@@ -105,13 +103,13 @@ list_order {A} before o = record { never = never; through = through; total = tot
         by_heads (inr (inl e)) (inr (inl f)) = inr (inl (ap (λ h. h ∷ xs) e ∙ ap (λ t. y ∷ t) f))
         by_heads (inr (inl e)) (inr (inr a)) = inr (inr (then_rest before o y x (list_before before ys xs) (sym e) a))
 
-pub set_order : IsOrder set_before
+pub set_order : IsTotalOrder set_before
 set_order = list_order nat_lt number_order
 
-pub hits_order : IsOrder hits_before
+pub hits_order : IsTotalOrder hits_before
 hits_order = list_order set_before set_order
 
-pub need_order : IsOrder need_before
+pub need_order : IsTotalOrder need_before
 need_order = record { never = never; through = through; total = total }
   where
     never : (a : Need) → need_before a a ≡ true → ⊥
@@ -145,12 +143,47 @@ need_order = record { never = never; through = through; total = total }
         by_hits (inr (inl e)) (inr (inl f)) = inr (inl (same_need a b e f))
         by_hits (inr (inl e)) (inr (inr y)) = inr (inr (then_rest hits_before hits_order b.hits a.hits (set_before b.lacks a.lacks) (sym e) y))
 
+pub requirement_order : IsTotalOrder requirement_before
+requirement_order = record { never = never; through = through; total = total }
+  where
+    rest : IsTotalOrder (list_before need_before)
+    rest = list_order need_before need_order
+
+    never : (a : List Need) → requirement_before a a ≡ true → ⊥
+    never a h = by_view (then_view nat_lt number_order (length a) (length a) (list_before need_before a a) h)
+      where
+        by_view : (nat_lt (length a) (length a) ≡ true) ⊎ ((length a ≡ length a) × (list_before need_before a a ≡ true)) → ⊥
+        by_view (inl k) = number_order.never (length a) k
+        by_view (inr k) = rest.never a k.1
+
+    through : (a b c : List Need) → requirement_before a b ≡ true → requirement_before b c ≡ true → requirement_before a c ≡ true
+    through a b c h k = by_views (then_view nat_lt number_order (length a) (length b) (list_before need_before a b) h)
+        (then_view nat_lt number_order (length b) (length c) (list_before need_before b c) k)
+      where
+        by_views : (nat_lt (length a) (length b) ≡ true) ⊎ ((length a ≡ length b) × (list_before need_before a b ≡ true))
+            → (nat_lt (length b) (length c) ≡ true) ⊎ ((length b ≡ length c) × (list_before need_before b c ≡ true)) → requirement_before a c ≡ true
+        by_views (inl x) (inl y) = then_first nat_lt (length a) (length c) (list_before need_before a c) (number_order.through (length a) (length b) (length c) x y)
+        by_views (inl x) (inr y) = then_first nat_lt (length a) (length c) (list_before need_before a c) (subst (λ v. nat_lt (length a) v ≡ true) y.0 x)
+        by_views (inr x) (inl y) = then_first nat_lt (length a) (length c) (list_before need_before a c) (subst (λ v. nat_lt v (length c) ≡ true) (sym x.0) y)
+        by_views (inr x) (inr y) = then_rest nat_lt number_order (length a) (length c) (list_before need_before a c) (x.0 ∙ y.0) (rest.through a b c x.1 y.1)
+
+    total : (a b : List Need) → (requirement_before a b ≡ true) ⊎ ((a ≡ b) ⊎ (requirement_before b a ≡ true))
+    total a b = by_length (number_order.total (length a) (length b)) (rest.total a b)
+      where
+        by_length : (nat_lt (length a) (length b) ≡ true) ⊎ ((length a ≡ length b) ⊎ (nat_lt (length b) (length a) ≡ true))
+            → (list_before need_before a b ≡ true) ⊎ ((a ≡ b) ⊎ (list_before need_before b a ≡ true)) → (requirement_before a b ≡ true) ⊎ ((a ≡ b) ⊎ (requirement_before b a ≡ true))
+        by_length (inl x) r = inl (then_first nat_lt (length a) (length b) (list_before need_before a b) x)
+        by_length (inr (inr x)) r = inr (inr (then_first nat_lt (length b) (length a) (list_before need_before b a) x))
+        by_length (inr (inl e)) (inl y) = inl (then_rest nat_lt number_order (length a) (length b) (list_before need_before a b) e y)
+        by_length (inr (inl e)) (inr (inl same)) = inr (inl same)
+        by_length (inr (inl e)) (inr (inr y)) = inr (inr (then_rest nat_lt number_order (length b) (length a) (list_before need_before b a) (sym e) y))
+
 -- rising lists with the same items are one
 
 abbrev pub AreIn : {A : Type 0} → List A → List A → Type 0
 AreIn {A} xs ys = Each (λ x. Some_of (λ (y : A). y ≡ x) ys) xs
 
-pub rising_same : {A : Type 0} (before : A → A → Bool) → IsOrder before → (xs ys : List A) → AreRising before xs → AreRising before ys → AreIn xs ys → AreIn ys xs → xs ≡ ys
+pub rising_same : {A : Type 0} (before : A → A → Bool) → IsTotalOrder before → (xs ys : List A) → AreRising before xs → AreRising before ys → AreIn xs ys → AreIn ys xs → xs ≡ ys
 rising_same before o [] [] r s h k = refl
 rising_same before o [] (y ∷ ys) r s h k = absurd k.0
 rising_same before o (x ∷ xs) [] r s h k = absurd h.0
@@ -190,14 +223,14 @@ count p (x ∷ xs) = cond (p x) 1 0 + count p xs
 abbrev pub is_same : {A : Type 0} → (A → A → Bool) → A → A → Bool
 is_same before x y = not (before x y) && not (before y x)
 
-pub same_itself : {A : Type 0} (before : A → A → Bool) → IsOrder before → (x : A) → is_same before x x ≡ true
+pub same_itself : {A : Type 0} (before : A → A → Bool) → IsTotalOrder before → (x : A) → is_same before x x ≡ true
 same_itself before o x = rw (not_false (before x x) (o.never x)) refl
 
 pub none_counted : {A : Type 0} (p : A → Bool) (xs : List A) → Each (λ x. p x ≡ false) xs → count p xs ≡ 0
 none_counted p [] h = refl
 none_counted p (x ∷ xs) h = let r = none_counted p xs h.1 in rw (h.0, r) refl
 
-pub sorted_same : {A : Type 0} (P : A → Type 0) (before : A → A → Bool) → IsOrder before → (xs ys : List A) → Each P xs → Each P ys → AreSorted before xs → AreSorted before ys
+pub sorted_same : {A : Type 0} (P : A → Type 0) (before : A → A → Bool) → IsTotalOrder before → (xs ys : List A) → Each P xs → Each P ys → AreSorted before xs → AreSorted before ys
     → ((w : A) → P w → count (is_same before w) xs ≡ count (is_same before w) ys) → xs ≡ ys
 sorted_same P before o [] [] p q r s h = refl
 sorted_same P before o [] (y ∷ ys) p q r s h =

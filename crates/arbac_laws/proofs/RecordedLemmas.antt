@@ -10,10 +10,10 @@ use Rattle.arbac_policy.specs.declared.profile.Profile.{Profile}
 use Rattle.arbac_laws.specs.Goals.{goal_requirements}
 use Rattle.arbac_laws.specs.Needs.{Covers, CoversNeed, Need}
 use Rattle.arbac_laws.specs.NormalForms.{AreSets, IsNormal, IsNormalNeed}
-use Rattle.arbac_laws.specs.Recorded.{Entry, IsEntry, IsRecordedList, Names, Origin, of_goal, of_parent}
+use Rattle.arbac_laws.specs.Recorded.{Entry, IsEntry, IsRecordedList, IsOrigin, Origin, of_goal, of_parent}
 use Rattle.arbac_laws.proofs.ConjunctLemmas.{AreSeniors}
 use Rattle.arbac_laws.proofs.CoverLemmas.{covers_itself}
-use Rattle.arbac_laws.proofs.ListLemmas.{each_is, is_some, some_map}
+use Rattle.arbac_laws.proofs.ListLemmas.{each_is, some_at, some_map}
 use Rattle.arbac_laws.proofs.MapLemmas.{embeds_itself}
 use Rattle.arbac_laws.proofs.NormalLemmas.{form_is_normal}
 use Rattle.arbac_laws.proofs.SetsLemmas.{goal_sets, sets_kept}
@@ -30,7 +30,7 @@ entry_normal rules same profiles goal list recorded (suc n) place entry l at =
     let r = recorded place entry at in
     form_is_normal r.derived.0 entry.needs (by_origin entry.origin r.derived.0 r.derived.1 (λ p e m. entry_normal rules same profiles goal list recorded n p e m)) r.derived.2
   where
-    by_origin : (origin : Origin) (needs : List Need) → Names rules goal (take place list) origin needs
+    by_origin : (origin : Origin) (needs : List Need) → IsOrigin rules goal (take place list) origin needs
         → ((p : ℕ) (parent : Entry) → p < n → slice_get list p ≡ Some parent → IsNormal parent.needs) → Each AreSets needs
     by_origin (of_goal number) needs named before = each_is (Each AreSets) (goal_requirements rules.order goal) needs number (goal_sets rules.order goal) named
     by_origin (of_parent p ob) needs named before =
@@ -65,7 +65,7 @@ pub not_covering : (rules : Rules) (profiles : List Profile) (goal : List Term) 
     → (i j : ℕ) (a b : Entry) → slice_get list i ≡ Some a → slice_get list j ≡ Some b → i < j → Covers a.needs b.needs → ⊥
 not_covering rules profiles goal list recorded i j a b at there l covers =
     (recorded j b there).uncovered (some_map (λ (e : Entry). e.needs) (λ one. Covers one b.needs) (take j list)
-    (is_some (λ (e : Entry). Covers e.needs b.needs) (take j list) a (i, get_take list j i l ∙ at) covers))
+    (some_at (λ (e : Entry). Covers e.needs b.needs) (take j list) a (i, get_take list j i l ∙ at) covers))
 
 pub entries_different : (rules : Rules) (profiles : List Profile) (goal : List Term) (list : List Entry) → IsRecordedList rules profiles goal list
     → (i j : ℕ) (a b : Entry) → slice_get list i ≡ Some a → slice_get list j ≡ Some b → a.needs ≡ b.needs → i ≡ j

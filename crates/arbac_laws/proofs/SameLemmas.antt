@@ -7,7 +7,8 @@ use Rattle.role_order.proofs.SetLemmas.{and_both, both_true, or_cases, or_right}
 use Rattle.role_order.specs.Lists.{Each, Some_of}
 use Rattle.role_order.specs.Roles.{AreApart, IsIn, IsOut, IsWithin, has_role, is_within, less_roles}
 use Rattle.arbac_laws.specs.Needs.{Covers, CoversNeed, Need}
-use Rattle.arbac_laws.specs.NormalForms.{IsNormal, IsNormalNeed, need_before, set_before}
+use Rattle.arbac_laws.specs.NormalForms.{IsNormal, IsNormalNeed}
+use Rattle.arbac_laws.specs.Orders.{need_before, set_before}
 use Rattle.arbac_laws.proofs.CountLemmas.{counted, embeds_with}
 use Rattle.arbac_laws.proofs.CoverLemmas.{covers_itself, covers_need}
 use Rattle.arbac_laws.proofs.ListLemmas.{each_own, each_some, each_weaker, some_each}

@@ -4,7 +4,8 @@ use Rattle.std.specs.Prelude.{◌⊎◌, filter}
 use Rattle.role_order.specs.Lists.{Each, Some_of}
 use Rattle.arbac_laws.specs.NormalForms.{AreRising, AreSorted, insert_by, insert_once, sort_by, sort_once}
 use Rattle.arbac_laws.proofs.ListLemmas.{each_by, each_some, each_weaker, some_weaker}
-use Rattle.arbac_laws.proofs.OrderLemmas.{IsOrder, not_both}
+use Rattle.arbac_laws.proofs.OrderLemmas.{not_both}
+use Rattle.arbac_laws.specs.Orders.{IsTotalOrder}
 
 pub filter_in : {A : Type 0} (P : A → Type 0) (p : A → Bool) (xs : List A) → Some_of P (filter p xs) → Some_of (λ x. P x × (p x ≡ true)) xs
 filter_in P p [] h = h
@@ -24,7 +25,7 @@ in_filter P p (x ∷ xs) (inr h) = by_test (p x) (in_filter P p xs h)
     by_test true k = inr k
     by_test false k = k
 
-pub insert_in : {A : Type 0} (before : A → A → Bool) → IsOrder before → (P : A → Type 0) (x : A) (ys : List A) → Some_of P (insert_once before x ys) → P x ⊎ Some_of P ys
+pub insert_in : {A : Type 0} (before : A → A → Bool) → IsTotalOrder before → (P : A → Type 0) (x : A) (ys : List A) → Some_of P (insert_once before x ys) → P x ⊎ Some_of P ys
 insert_in before o P x [] (inl h) = inl h
 insert_in before o P x [] (inr h) = inr h
 insert_in before o P x (y ∷ ys) h = by_tests (before y x) (before x y) h (insert_in before o P x ys)
@@ -40,7 +41,7 @@ insert_in before o P x (y ∷ ys) h = by_tests (before y x) (before x y) h (inse
     by_tests false true (inr h) rest = inr h
     by_tests false false h rest = inr h
 
-pub in_insert : {A : Type 0} (before : A → A → Bool) → IsOrder before → (P : A → Type 0) (x : A) (ys : List A) → P x ⊎ Some_of P ys → Some_of P (insert_once before x ys)
+pub in_insert : {A : Type 0} (before : A → A → Bool) → IsTotalOrder before → (P : A → Type 0) (x : A) (ys : List A) → P x ⊎ Some_of P ys → Some_of P (insert_once before x ys)
 in_insert before o P x [] h = h
 in_insert {A} before o P x (y ∷ ys) h = by_tests (before y x) (before x y) refl refl h (in_insert before o P x ys)
   where
@@ -58,7 +59,7 @@ in_insert {A} before o P x (y ∷ ys) h = by_tests (before y x) (before x y) ref
         by_total (inr (inl same)) = inl (subst P same h)
         by_total (inr (inr k)) = cc
 
-pub sort_in : {A : Type 0} (before : A → A → Bool) → IsOrder before → (P : A → Type 0) (xs : List A) → Some_of P (sort_once before xs) → Some_of P xs
+pub sort_in : {A : Type 0} (before : A → A → Bool) → IsTotalOrder before → (P : A → Type 0) (xs : List A) → Some_of P (sort_once before xs) → Some_of P xs
 sort_in before o P [] h = h
 sort_in before o P (x ∷ xs) h = by_side (insert_in before o P x (sort_once before xs) h) (sort_in before o P xs)
   where
@@ -66,12 +67,12 @@ sort_in before o P (x ∷ xs) h = by_side (insert_in before o P x (sort_once bef
     by_side (inl h) rest = inl h
     by_side (inr h) rest = inr (rest h)
 
-pub in_sort : {A : Type 0} (before : A → A → Bool) → IsOrder before → (P : A → Type 0) (xs : List A) → Some_of P xs → Some_of P (sort_once before xs)
+pub in_sort : {A : Type 0} (before : A → A → Bool) → IsTotalOrder before → (P : A → Type 0) (xs : List A) → Some_of P xs → Some_of P (sort_once before xs)
 in_sort before o P [] h = h
 in_sort before o P (x ∷ xs) (inl h) = in_insert before o P x (sort_once before xs) (inl h)
 in_sort before o P (x ∷ xs) (inr h) = in_insert before o P x (sort_once before xs) (inr (in_sort before o P xs h))
 
-pub insert_rises : {A : Type 0} (before : A → A → Bool) → IsOrder before → (x : A) (ys : List A) → AreRising before ys → AreRising before (insert_once before x ys)
+pub insert_rises : {A : Type 0} (before : A → A → Bool) → IsTotalOrder before → (x : A) (ys : List A) → AreRising before ys → AreRising before (insert_once before x ys)
 insert_rises before o x [] r = (tt, tt)
 insert_rises {A} before o x (y ∷ ys) r = by_tests (before y x) (before x y) refl refl (insert_rises before o x ys r.1)
   where
@@ -84,7 +85,7 @@ insert_rises {A} before o x (y ∷ ys) r = by_tests (before y x) (before x y) re
     by_tests false true e f rest = ((f, each_weaker (λ z. before y z ≡ true) (λ z. before x z ≡ true) (λ z k. o.through x y z f k) ys r.0), r)
     by_tests false false e f rest = r
 
-pub sort_rises : {A : Type 0} (before : A → A → Bool) → IsOrder before → (xs : List A) → AreRising before (sort_once before xs)
+pub sort_rises : {A : Type 0} (before : A → A → Bool) → IsTotalOrder before → (xs : List A) → AreRising before (sort_once before xs)
 sort_rises before o [] = tt
 sort_rises before o (x ∷ xs) = insert_rises before o x (sort_once before xs) (sort_rises before o xs)
 
@@ -112,7 +113,7 @@ pub sort_by_in : {A : Type 0} (before : A → A → Bool) (P : A → Type 0) (xs
 sort_by_in before P [] e = tt
 sort_by_in before P (x ∷ xs) e = insert_by_in before P x (sort_by before xs) (sort_by_in before P xs e.1) e.0
 
-pub insert_sorted : {A : Type 0} (before : A → A → Bool) → IsOrder before → (x : A) (ys : List A) → AreSorted before ys → AreSorted before (insert_by before x ys)
+pub insert_sorted : {A : Type 0} (before : A → A → Bool) → IsTotalOrder before → (x : A) (ys : List A) → AreSorted before ys → AreSorted before (insert_by before x ys)
 insert_sorted before o x [] s = (tt, tt)
 insert_sorted {A} before o x (y ∷ ys) s = by_test (before y x) refl (insert_sorted before o x ys s.1)
   where
@@ -128,6 +129,6 @@ insert_sorted {A} before o x (y ∷ ys) s = by_test (before y x) refl (insert_so
             by_total (inr (inl same)) = let c = subst (λ v. before v x ≡ true) (sym same) k in cc
             by_total (inr (inr b)) = n b
 
-pub sort_sorted : {A : Type 0} (before : A → A → Bool) → IsOrder before → (xs : List A) → AreSorted before (sort_by before xs)
+pub sort_sorted : {A : Type 0} (before : A → A → Bool) → IsTotalOrder before → (xs : List A) → AreSorted before (sort_by before xs)
 sort_sorted before o [] = tt
 sort_sorted before o (x ∷ xs) = insert_sorted before o x (sort_by before xs) (sort_sorted before o xs)

@@ -14,7 +14,7 @@ use Rattle.arbac_laws.specs.Needs.{Meets, MeetsNeed, Need}
 use Rattle.arbac_laws.specs.PreImages.{AssignObligation, IsPick, Pick, WeakObligation, admin_place, assign_pre_image, weak_pre_image, with_admin}
 use Rattle.arbac_laws.proofs.ConjunctLemmas.{common_member, conjunct_met, member_common, met_conjunct}
 use Rattle.arbac_laws.proofs.ExchangeLemmas.{Peeled, exchanged, peel, put_admin, put_target, untouched}
-use Rattle.arbac_laws.proofs.ListLemmas.{is_some, set_itself, some_is}
+use Rattle.arbac_laws.proofs.ListLemmas.{some_at, set_itself, some_item}
 use Rattle.arbac_laws.proofs.MapLemmas.{find_place, get_below, get_set_same, get_there, length_set}
 use Rattle.arbac_laws.proofs.RoleLemmas.{cases_in}
 use Rattle.arbac_laws.proofs.TargetLemmas.{before_given, before_taken, given, given_kept, taken, taken_kept}
@@ -77,25 +77,25 @@ opened users needs t need before pick hit at is f = record {
         → (m : Meets (slice_set users k new) needs) × ((i : ℕ) → m.to i ≡ f.to i)
     later k e new r = subst (λ k. (m : Meets (slice_set users k new) needs) × ((i : ℕ) → m.to i ≡ f.to i)) e r
 
-pub record GiveLeads (rules : Rules) (users : List (List ℕ)) (needs : List Need) (admin target role : ℕ) (to : ℕ → ℕ) : Type 0 where
+pub record AssignLeads (rules : Rules) (users : List (List ℕ)) (needs : List Need) (admin target role : ℕ) (to : ℕ → ℕ) : Type 0 where
   pub new : List (List ℕ)
   pub step : AssignStep user rules users users admin target role new
   pub meets : Meets new needs
   pub kept : (i : ℕ) → meets.to i ≡ to i
 
-pub give_leads : (rules : Rules) → AreSeniors rules.order → (users : List (List ℕ)) (needs : List Need) (ob : AssignObligation rules needs) (f : Meets users (assign_pre_image ob))
-    → GiveLeads rules users needs (f.to (admin_place ob.pick ob.target (length needs))) (f.to ob.target) ob.role f.to
-give_leads rules same users needs ob f = record {
+pub assign_leads : (rules : Rules) → AreSeniors rules.order → (users : List (List ℕ)) (needs : List Need) (ob : AssignObligation rules needs) (f : Meets users (assign_pre_image ob))
+    → AssignLeads rules users needs (f.to (admin_place ob.pick ob.target (length needs))) (f.to ob.target) ob.role f.to
+assign_leads rules same users needs ob f = record {
   new = slice_set users (f.to ob.target) (with_role o.set ob.role);
   step = record {
     by = o.by;
     by_is = o.by_is;
     set = o.set;
     set_is = o.set_is;
-    lets = is_some (LetsAssign user rules o.by o.set ob.role) rules.assign ob.rule ob.is_rule (record {
+    lets = some_at (LetsAssign user rules o.by o.set ob.role) rules.assign ob.rule ob.is_rule (record {
       in_range = ob.in_range;
       by_admin = common_member rules.order same o.by ob.rule.admin o.common;
-      meets = met_conjunct rules.order same o.set (term_of ob.rule.cond) (is_some (λ c. MeetsNeed c o.set) (conjuncts rules.order (term_of ob.rule.cond)) ob.conjunct ob.is_conjunct g.1);
+      meets = met_conjunct rules.order same o.set (term_of ob.rule.cond) (some_at (λ c. MeetsNeed c o.set) (conjuncts rules.order (term_of ob.rule.cond)) ob.conjunct ob.is_conjunct g.1);
     });
     free = inr g.2;
     gives = refl;
@@ -113,22 +113,22 @@ give_leads rules same users needs ob f = record {
     later : (m : Meets (slice_set users (f.to ob.target) (with_role o.set ob.role)) needs) × ((i : ℕ) → m.to i ≡ f.to i)
     later = o.after (with_role o.set ob.role) g.0
 
-pub record TakeLeads (rules : Rules) (users : List (List ℕ)) (needs : List Need) (admin target role : ℕ) (to : ℕ → ℕ) : Type 0 where
+pub record WeakLeads (rules : Rules) (users : List (List ℕ)) (needs : List Need) (admin target role : ℕ) (to : ℕ → ℕ) : Type 0 where
   pub new : List (List ℕ)
   pub step : WeakStep user rules users users admin target role new
   pub meets : Meets new needs
   pub kept : (i : ℕ) → meets.to i ≡ to i
 
-pub take_leads : (rules : Rules) → AreSeniors rules.order → (users : List (List ℕ)) (needs : List Need) (ob : WeakObligation rules needs) (f : Meets users (weak_pre_image ob))
-    → TakeLeads rules users needs (f.to (admin_place ob.pick ob.target (length needs))) (f.to ob.target) ob.role f.to
-take_leads rules same users needs ob f = record {
+pub weak_leads : (rules : Rules) → AreSeniors rules.order → (users : List (List ℕ)) (needs : List Need) (ob : WeakObligation rules needs) (f : Meets users (weak_pre_image ob))
+    → WeakLeads rules users needs (f.to (admin_place ob.pick ob.target (length needs))) (f.to ob.target) ob.role f.to
+weak_leads rules same users needs ob f = record {
   new = slice_set users (f.to ob.target) (without_role o.set ob.role);
   step = record {
     by = o.by;
     by_is = o.by_is;
     set = o.set;
     set_is = o.set_is;
-    lets = is_some (LetsRevoke rules o.by ob.role) rules.revoke ob.rule ob.is_rule (record {
+    lets = some_at (LetsRevoke rules o.by ob.role) rules.revoke ob.rule ob.is_rule (record {
       in_range = ob.in_range;
       by_admin = common_member rules.order same o.by ob.rule.admin o.common;
     });
@@ -145,7 +145,7 @@ take_leads rules same users needs ob f = record {
     later = o.after (without_role o.set ob.role) (taken ob.need ob.before ob.role o.set ob.before_is o.meets)
 
 -- the need that goes to the user whose set was exchanged, and what follows from another need of his old set
-pub record Hit_user (users : List (List ℕ)) (needs : List Need) (set new : List ℕ) : Type 0 where
+pub record AtUser (users : List (List ℕ)) (needs : List Need) (set new : List ℕ) : Type 0 where
   pub target : ℕ
   pub need : Need
   pub need_is : slice_get needs target ≡ Some need
@@ -153,10 +153,10 @@ pub record Hit_user (users : List (List ℕ)) (needs : List Need) (set new : Lis
   pub put : (before : Need) → MeetsNeed before set → Meets users (slice_set needs target before)
 
 pub touched : (users : List (List ℕ)) (needs : List Need) (p : ℕ) (set new : List ℕ) → slice_get users p ≡ Some set → Meets (slice_set users p new) needs
-    → Meets users needs ⊎ Hit_user users needs set new
+    → Meets users needs ⊎ AtUser users needs set new
 touched users needs p set new set_is f = by_found (find_place f.to p (length needs))
   where
-    by_found : ((t : ℕ) × (t < length needs) × (f.to t ≡ p)) ⊎ ((i : ℕ) → i < length needs → f.to i ≡ p → ⊥) → Meets users needs ⊎ Hit_user users needs set new
+    by_found : ((t : ℕ) × (t < length needs) × (f.to t ≡ p)) ⊎ ((i : ℕ) → i < length needs → f.to i ≡ p → ⊥) → Meets users needs ⊎ AtUser users needs set new
     by_found (inr none) = inl (untouched users needs p new f none)
     by_found (inl found) =
         let need = get_there needs found.0 found.1 in
@@ -173,21 +173,21 @@ touched users needs p set new set_is f = by_found (find_place f.to p (length nee
         })
 
 -- the need itself is met by the old set
-pub put_back : (users : List (List ℕ)) (needs : List Need) (set new : List ℕ) (h : Hit_user users needs set new) → MeetsNeed h.need set → Meets users needs
+pub put_back : (users : List (List ℕ)) (needs : List Need) (set new : List ℕ) (h : AtUser users needs set new) → MeetsNeed h.need set → Meets users needs
 put_back users needs set new h m = subst (λ n. Meets users n) (set_itself needs h.target h.need h.need_is) (h.put h.need m)
 
-pub given_back : (rules : Rules) → AreSeniors rules.order → (old new : List (List ℕ)) (admin target role : ℕ) (needs : List Need) → AssignStep user rules old old admin target role new → Meets new needs
+pub before_assign_step : (rules : Rules) → AreSeniors rules.order → (old new : List (List ℕ)) (admin target role : ℕ) (needs : List Need) → AssignStep user rules old old admin target role new → Meets new needs
     → Meets old needs ⊎ ((ob : AssignObligation rules needs) × Meets old (assign_pre_image ob))
-given_back rules same old new admin target role needs step met =
+before_assign_step rules same old new admin target role needs step met =
     by_user (touched old needs target step.set (with_role step.set role) step.set_is (subst (λ n. Meets n needs) step.gives met))
   where
     rule : (r : CanAssign) × IsOneOf rules.assign r × LetsAssign user rules step.by step.set role r
-    rule = some_is (LetsAssign user rules step.by step.set role) rules.assign step.lets
+    rule = some_item (LetsAssign user rules step.by step.set role) rules.assign step.lets
 
     conjunct : (c : Need) × IsOneOf (conjuncts rules.order (term_of rule.0.cond)) c × MeetsNeed c step.set
-    conjunct = some_is (λ c. MeetsNeed c step.set) (conjuncts rules.order (term_of rule.0.cond)) (conjunct_met rules.order same step.set (term_of rule.0.cond) rule.2.meets)
+    conjunct = some_item (λ c. MeetsNeed c step.set) (conjuncts rules.order (term_of rule.0.cond)) (conjunct_met rules.order same step.set (term_of rule.0.cond) rule.2.meets)
 
-    by_user : Meets old needs ⊎ Hit_user old needs step.set (with_role step.set role) → Meets old needs ⊎ ((ob : AssignObligation rules needs) × Meets old (assign_pre_image ob))
+    by_user : Meets old needs ⊎ AtUser old needs step.set (with_role step.set role) → Meets old needs ⊎ ((ob : AssignObligation rules needs) × Meets old (assign_pre_image ob))
     by_user (inl m) = inl m
     by_user (inr h) = by_free step.free (cases_wanted role h.need.hits)
       where
@@ -219,15 +219,15 @@ given_back rules same old new admin target role needs step met =
               a.2,
             )
 
-pub taken_back : (rules : Rules) → AreSeniors rules.order → (old new : List (List ℕ)) (admin target role : ℕ) (needs : List Need) → WeakStep user rules old old admin target role new → Meets new needs
+pub before_weak_step : (rules : Rules) → AreSeniors rules.order → (old new : List (List ℕ)) (admin target role : ℕ) (needs : List Need) → WeakStep user rules old old admin target role new → Meets new needs
     → Meets old needs ⊎ ((ob : WeakObligation rules needs) × Meets old (weak_pre_image ob))
-taken_back rules same old new admin target role needs step met =
+before_weak_step rules same old new admin target role needs step met =
     by_user (touched old needs target step.set (without_role step.set role) step.set_is (subst (λ n. Meets n needs) step.gives met))
   where
     rule : (r : CanRevoke) × IsOneOf rules.revoke r × LetsRevoke rules step.by role r
-    rule = some_is (LetsRevoke rules step.by role) rules.revoke step.lets
+    rule = some_item (LetsRevoke rules step.by role) rules.revoke step.lets
 
-    by_user : Meets old needs ⊎ Hit_user old needs step.set (without_role step.set role) → Meets old needs ⊎ ((ob : WeakObligation rules needs) × Meets old (weak_pre_image ob))
+    by_user : Meets old needs ⊎ AtUser old needs step.set (without_role step.set role) → Meets old needs ⊎ ((ob : WeakObligation rules needs) × Meets old (weak_pre_image ob))
     by_user (inl m) = inl m
     by_user (inr h) = by_wanted (cases_in h.need.lacks role)
       where

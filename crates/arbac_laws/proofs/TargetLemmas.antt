@@ -58,11 +58,11 @@ free_of_pairs order same set role (pair ∷ pairs) e apart (inl h) =
     by_tests false false a b e f g (inl l) = let top = (same pair.0 role).1 l in cc
     by_tests false false a b e f g (inr l) = let top = (same pair.1 role).1 l in cc
 
-pub pairs_of_free : (order : Graph) → AreSeniors order → (set : List ℕ) (role : ℕ) (pairs : List (ℕ × ℕ)) → (Some_of (Blocks order.edges set role) pairs → ⊥)
+pub free_pairs : (order : Graph) → AreSeniors order → (set : List ℕ) (role : ℕ) (pairs : List (ℕ × ℕ)) → (Some_of (Blocks order.edges set role) pairs → ⊥)
     → (is_barred order role pairs ≡ false) × AreApart (barred order role pairs) set
-pairs_of_free order same set role [] free = (refl, λ q k held. cc)
-pairs_of_free order same set role (pair ∷ pairs) free =
-    let rest = pairs_of_free order same set role pairs (λ h. free (inr h)) in
+free_pairs order same set role [] free = (refl, λ q k held. cc)
+free_pairs order same set role (pair ∷ pairs) free =
+    let rest = free_pairs order same set role pairs (λ h. free (inr h)) in
     by_tests (has_role (seniors_of order pair.0) role) (has_role (seniors_of order pair.1) role) refl refl rest.0 rest.1
   where
     first : Bool → List ℕ
@@ -167,7 +167,7 @@ before_given rules same conjunct need role set m c free = (
     made = record { hits = filter (λ hit. not (has_role hit role)) need.hits ++ conjunct.hits; lacks = join_roles need.lacks more }
 
     pairs : (is_barred rules.order role rules.exclusive ≡ false) × AreApart (barred rules.order role rules.exclusive) set
-    pairs = pairs_of_free rules.order same set role rules.exclusive free
+    pairs = free_pairs rules.order same set role rules.exclusive free
 
     not_lacked : has_role need.lacks role ≡ false
     not_lacked = by_case (cases_in need.lacks role)

@@ -17,14 +17,18 @@ IsUnmet profiles needs = (users : List (List ℕ)) → IsDrawn profiles users �
 -- each possible goal requirement and each possible pre-image of a member is covered by a member, and
 -- no drawn population meets a member
 pub record IsClosedList (rules : Rules) (profiles : List Profile) (goal : List Term) (list : List (List Need)) : Type 0 where
-  pub goals : (needs : List Need) → IsOneOf (goal_requirements rules.order goal) needs → IsPossible needs → IsCovered list needs
+  pub goals : (needs : List Need) → IsOneOf (goal_requirements rules.order goal) needs
+      → IsPossible needs → IsCovered list needs
   pub pre_images : (needs : List Need) → IsOneOf list needs → (ob : Obligation) → IsOneOf (obligations rules needs) ob
       → (before : List Need) → pre_image rules needs ob ≡ Some before → IsPossible before → IsCovered list before
   pub unmet : (needs : List Need) → IsOneOf list needs → IsUnmet profiles needs
 
 -- the same over obligations in parts, in whatever order
 pub record IsClosed (rules : Rules) (profiles : List Profile) (goal : List Term) (list : List (List Need)) : Type 0 where
-  pub goals : (needs : List Need) → IsOneOf (goal_requirements rules.order goal) needs → IsPossible needs → IsCovered list needs
-  pub assigns : (needs : List Need) → IsOneOf list needs → (ob : AssignObligation rules needs) → IsPossible (assign_pre_image ob) → IsCovered list (assign_pre_image ob)
-  pub revokes : (needs : List Need) → IsOneOf list needs → (ob : WeakObligation rules needs) → IsPossible (weak_pre_image ob) → IsCovered list (weak_pre_image ob)
+  pub goals : (needs : List Need) → IsOneOf (goal_requirements rules.order goal) needs
+      → IsPossible needs → IsCovered list needs
+  pub assigns : (needs : List Need) → IsOneOf list needs → (ob : AssignObligation rules needs)
+      → IsPossible (assign_pre_image ob) → IsCovered list (assign_pre_image ob)
+  pub revokes : (needs : List Need) → IsOneOf list needs → (ob : WeakObligation rules needs)
+      → IsPossible (weak_pre_image ob) → IsCovered list (weak_pre_image ob)
   pub unmet : (needs : List Need) → IsOneOf list needs → IsUnmet profiles needs

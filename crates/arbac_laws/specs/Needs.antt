@@ -1,5 +1,5 @@
 -- Requirements: what a population must meet, and when one requirement covers another.
-use Rattle.std.specs.Prelude.{ℕ, List}
+use Rattle.std.specs.Prelude.{ℕ, ◌≡◌, List}
 use Rattle.role_order.specs.Lists.{Each, Some_of}
 use Rattle.role_order.specs.Roles.{less_roles, IsIn, IsOut, IsWithin, AreApart, HaveCommon}
 use Rattle.arbac_policy.specs.Embeds.{Embeds}
@@ -22,6 +22,10 @@ pub record MeetsNeed (need : Need) (set : List ℕ) : Type 0 where
 -- different users of the population meet the user requirements one by one
 abbrev pub Meets : List (List ℕ) → List Need → Type 0
 Meets users needs = Embeds MeetsNeed needs users
+
+-- the same, where the user requirements stand where the map says
+abbrev pub MeetsBy : List (List ℕ) → List Need → (ℕ → ℕ) → Type 0
+MeetsBy users needs to = (met : Meets users needs) × ((i : ℕ) → met.to i ≡ to i)
 
 -- each hit of the first contains some hit of the second less the second's lacks,
 -- and the lacks of the first lie within those of the second

@@ -1,28 +1,11 @@
 -- The normal form of a requirement.
-use Rattle.std.specs.Prelude.{ℕ, ◌≡◌, Bool, true, false, ◌||◌, ◌&&◌, not, nat_lt, if◌then◌else◌, List, [], ◌∷◌, map, filter, Some, None, Option}
+use Rattle.std.specs.Prelude.{ℕ, ◌≡◌, Bool, true, ◌&&◌, not, if◌then◌else◌, List, [], ◌∷◌, map, filter, Some, None, Option}
 use Rattle.std.specs.List.{list_any}
 use Rattle.role_order.specs.Lists.{Each}
 use Rattle.role_order.specs.Roles.{is_within, less_roles, IsWithin, AreApart, Rises}
 use Rattle.arbac_laws.specs.Needs.{Need}
 use Rattle.arbac_laws.specs.PreImages.{is_empty}
-
--- a list comes before another at the first place where they differ, or as its front
-abbrev pub list_before : {A : Type 0} → (A → A → Bool) → List A → List A → Bool
-list_before before [] [] = false
-list_before before [] (y ∷ ys) = true
-list_before before (x ∷ xs) [] = false
-list_before before (x ∷ xs) (y ∷ ys) = before x y || (not (before y x) && list_before before xs ys)
-
--- sets as rising lists of numbers
-abbrev pub set_before : List ℕ → List ℕ → Bool
-set_before = list_before nat_lt
-
-abbrev pub hits_before : List (List ℕ) → List (List ℕ) → Bool
-hits_before = list_before set_before
-
--- by the hits, and then by the lacks
-abbrev pub need_before : Need → Need → Bool
-need_before a b = hits_before a.hits b.hits || (not (hits_before b.hits a.hits) && set_before a.lacks b.lacks)
+use Rattle.arbac_laws.specs.Orders.{set_before, need_before}
 
 abbrev pub insert_by : {A : Type 0} → (A → A → Bool) → A → List A → List A
 insert_by before x [] = x ∷ []
@@ -35,7 +18,10 @@ sort_by before (x ∷ xs) = insert_by before x (sort_by before xs)
 
 abbrev pub insert_once : {A : Type 0} → (A → A → Bool) → A → List A → List A
 insert_once before x [] = x ∷ []
-insert_once before x (y ∷ ys) = if before y x then y ∷ insert_once before x ys else if before x y then x ∷ y ∷ ys else y ∷ ys
+insert_once before x (y ∷ ys) =
+    if before y x then y ∷ insert_once before x ys
+    else if before x y then x ∷ y ∷ ys
+    else y ∷ ys
 
 -- sorted without repeats
 abbrev pub sort_once : {A : Type 0} → (A → A → Bool) → List A → List A

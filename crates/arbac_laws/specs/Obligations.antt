@@ -1,6 +1,7 @@
 -- The ordered list of obligations of a requirement, the pre-image of each, and the act that it names.
-use Rattle.std.specs.Prelude.{ℕ, ◌+◌, ◌==◌, Bool, true, false, ◌&&◌, not, List, [], ◌∷◌, ◌++◌, map, filter, length, slice_get, slice_set, Some, None, Option}
+use Rattle.std.specs.Prelude.{ℕ, ◌≡◌, ◌+◌, ◌==◌, Bool, true, false, ◌&&◌, not, List, [], ◌∷◌, ◌++◌, map, filter, length, slice_get, slice_set, Some, None, Option}
 use Rattle.std.specs.List.{list_any}
+use Rattle.role_order.specs.Lists.{Some_of}
 use Rattle.role_order.specs.Roles.{has_role}
 use Rattle.role_order.specs.Graph.{Graph}
 use Rattle.role_order.specs.Reach.{count_up, seniors_of}
@@ -10,7 +11,7 @@ use Rattle.arbac_policy.specs.declared.act.ActKind.{ActKind}
 use Rattle.arbac_policy.specs.declared.act.ActKind.TheVariants.{Assign, Weak}
 use Rattle.arbac_policy.specs.Truth.{term_of}
 use Rattle.arbac_policy.specs.Rules.{Rules}
-use Rattle.arbac_laws.specs.Needs.{Need}
+use Rattle.arbac_laws.specs.Needs.{Need, Meets}
 use Rattle.arbac_laws.specs.Conjuncts.{conjuncts}
 use Rattle.arbac_laws.specs.PreImages.{before_assign, before_weak, Pick, itself, other, fresh, with_admin, admin_place}
 
@@ -83,14 +84,21 @@ barring role needs = flat_places (λ place need. if_wanted (has_role need.lacks 
 -- for each rule by place, conjunct by place, role of its range rising, target by place, and administrator
 abbrev pub assign_obligations : Rules → List Need → List Obligation
 assign_obligations rules needs =
-    flat_places (λ i rule. flat_places (λ j conjunct. flat (λ role. flat (λ target. map (λ pick. assigns i j role target pick) (picks target (length needs)))
-    (wanting role needs)) (roles_in rules.order rule.range)) 0 (conjuncts rules.order (term_of rule.cond))) 0 rules.assign
+    flat_places (λ i rule. flat_places (λ j conjunct. flat (λ role. flat (λ target.
+    map (λ pick. assigns i j role target pick) (picks target (length needs)))
+    (wanting role needs))
+    (roles_in rules.order rule.range))
+    0 (conjuncts rules.order (term_of rule.cond)))
+    0 rules.assign
 
 -- for each rule by place, role of its range rising, target by place, and administrator
 abbrev pub weak_obligations : Rules → List Need → List Obligation
 weak_obligations rules needs =
-    flat_places (λ i rule. flat (λ role. flat (λ target. map (λ pick. revokes i role target pick) (picks target (length needs)))
-    (barring role needs)) (roles_in rules.order rule.range)) 0 rules.revoke
+    flat_places (λ i rule. flat (λ role. flat (λ target.
+    map (λ pick. revokes i role target pick) (picks target (length needs)))
+    (barring role needs))
+    (roles_in rules.order rule.range))
+    0 rules.revoke
 
 -- first those to assign, then those to revoke
 abbrev pub obligations : Rules → List Need → List Obligation
@@ -104,8 +112,18 @@ and_then (Some x) f = f x
 -- what a population must meet before the act of the obligation, or none where nothing will do
 abbrev pub pre_image : Rules → List Need → Obligation → Option (List Need)
 pre_image rules needs (assigns i j role target pick) =
-    and_then (slice_get rules.assign i) (λ rule. and_then (slice_get (conjuncts rules.order (term_of rule.cond)) j) (λ conjunct. and_then (slice_get needs target) (λ need.
-    and_then (before_assign rules conjunct role need) (λ before. Some (with_admin pick target (seniors_of rules.order rule.admin) (slice_set needs target before))))))
+    and_then (slice_get rules.assign i) (λ rule.
+    and_then (slice_get (conjuncts rules.order (term_of rule.cond)) j) (λ conjunct.
+    and_then (slice_get needs target) (λ need.
+    and_then (before_assign rules conjunct role need) (λ before.
+    Some (with_admin pick target (seniors_of rules.order rule.admin) (slice_set needs target before))))))
 pre_image rules needs (revokes i role target pick) =
-    and_then (slice_get rules.revoke i) (λ rule. and_then (slice_get needs target) (λ need.
-    and_then (before_weak role need) (λ before. Some (with_admin pick target (seniors_of rules.order rule.admin) (slice_set needs target before)))))
+    and_then (slice_get rules.revoke i) (λ rule.
+    and_then (slice_get needs target) (λ need.
+    and_then (before_weak role need) (λ before.
+    Some (with_admin pick target (seniors_of rules.order rule.admin) (slice_set needs target before)))))
+
+-- the population meets the pre-image of an obligation
+abbrev pub MeetsPreImage : Rules → List (List ℕ) → List Need → Type 0
+MeetsPreImage rules users needs =
+    Some_of (λ ob. (before : List Need) × (pre_image rules needs ob ≡ Some before) × Meets users before) (obligations rules needs)

@@ -17,7 +17,8 @@ AreDifferent (x ∷ xs) = Each (λ y. ¬ (x ≡ y)) xs × AreDifferent xs
 -- the item at the place stands so to items at these places alone
 abbrev pub OnlyAmong : {A B : Type 0} → (A → B → Type 0) → List A → List B → List ℕ → ℕ → Type 0
 OnlyAmong {A} {B} R xs ys among i =
-    (x : A) (j : ℕ) (y : B) → slice_get xs i ≡ Some x → slice_get ys j ≡ Some y → R x y → Some_of (λ k. k ≡ j) among
+    (x : A) (j : ℕ) (y : B) → slice_get xs i ≡ Some x → slice_get ys j ≡ Some y → R x y
+    → Some_of (λ k. k ≡ j) among
 
 -- different items of the first list that stand so to fewer items of the second than they are
 pub record AreDeficient {A B : Type 0} (R : A → B → Type 0) (xs : List A) (ys : List B) (items among : List ℕ) : Type 0 where

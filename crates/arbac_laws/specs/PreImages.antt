@@ -107,7 +107,8 @@ pub record AssignObligation (rules : Rules) (needs : List Need) : Type 0 where
 -- its pre-image: the target's user requirement is exchanged, and the administrator has a senior of
 -- the rule's administrative role
 abbrev pub assign_pre_image : {rules : Rules} {needs : List Need} → AssignObligation rules needs → List Need
-assign_pre_image {rules} {needs} ob = with_admin ob.pick ob.target (seniors_of rules.order ob.rule.admin) (slice_set needs ob.target ob.before)
+assign_pre_image {rules} {needs} ob =
+    with_admin ob.pick ob.target (seniors_of rules.order ob.rule.admin) (slice_set needs ob.target ob.before)
 
 -- an obligation to revoke weakly, in parts: a rule and a role of its range, a target whose lacks
 -- have the role, an administrator, and what the target must meet before
@@ -126,4 +127,5 @@ pub record WeakObligation (rules : Rules) (needs : List Need) : Type 0 where
   pub before_is : before_weak role need ≡ Some before
 
 abbrev pub weak_pre_image : {rules : Rules} {needs : List Need} → WeakObligation rules needs → List Need
-weak_pre_image {rules} {needs} ob = with_admin ob.pick ob.target (seniors_of rules.order ob.rule.admin) (slice_set needs ob.target ob.before)
+weak_pre_image {rules} {needs} ob =
+    with_admin ob.pick ob.target (seniors_of rules.order ob.rule.admin) (slice_set needs ob.target ob.before)

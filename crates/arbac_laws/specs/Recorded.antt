@@ -19,19 +19,21 @@ pub record Entry : Type 0 where
   pub origin : Origin
   pub needs : List Need
 
--- the origin names this requirement, with these entries before it
-abbrev pub Names : Rules → List Term → List Entry → Origin → List Need → Type 0
-Names rules goal earlier (of_goal number) needs = slice_get (goal_requirements rules.order goal) number ≡ Some needs
-Names rules goal earlier (of_parent parent ob) needs =
-    (entry : Entry) × (slice_get earlier parent ≡ Some entry) × IsOneOf (obligations rules entry.needs) ob × (pre_image rules entry.needs ob ≡ Some needs)
+-- the origin, with these entries before it, names this requirement
+abbrev pub IsOrigin : Rules → List Term → List Entry → Origin → List Need → Type 0
+IsOrigin rules goal earlier (of_goal number) needs = slice_get (goal_requirements rules.order goal) number ≡ Some needs
+IsOrigin rules goal earlier (of_parent parent ob) needs =
+    (entry : Entry) × (slice_get earlier parent ≡ Some entry)
+    × IsOneOf (obligations rules entry.needs) ob × (pre_image rules entry.needs ob ≡ Some needs)
 
 -- the entry is the normal form of what its origin names, is covered by no earlier one, and no drawn
 -- population meets it
 pub record IsEntry (rules : Rules) (profiles : List Profile) (goal : List Term) (earlier : List Entry) (entry : Entry) : Type 0 where
-  pub derived : (needs : List Need) × Names rules goal earlier entry.origin needs × (normal_form needs ≡ Some entry.needs)
+  pub derived : (needs : List Need) × IsOrigin rules goal earlier entry.origin needs × (normal_form needs ≡ Some entry.needs)
   pub uncovered : ¬ IsCovered (map (λ (e : Entry). e.needs) earlier) entry.needs
   pub unmet : IsUnmet profiles entry.needs
 
 -- each entry is one after those before it
 abbrev pub IsRecordedList : Rules → List Profile → List Term → List Entry → Type 0
-IsRecordedList rules profiles goal list = (place : ℕ) (entry : Entry) → slice_get list place ≡ Some entry → IsEntry rules profiles goal (take place list) entry
+IsRecordedList rules profiles goal list =
+    (place : ℕ) (entry : Entry) → slice_get list place ≡ Some entry → IsEntry rules profiles goal (take place list) entry

@@ -1,6 +1,5 @@
 -- A small policy, worked.
-use Rattle.std.specs.Prelude.{ℕ, List, [], ◌∷◌, false, Some}
-use Rattle.std.specs.Prelude.{codes}
+use Rattle.std.specs.Prelude.{ℕ, List, [], ◌∷◌, false, Some, codes}
 use Rattle.role_order.specs.declared.range.Range.{Range}
 use Rattle.arbac_policy.specs.declared.cond.Cond.TheVariants.{Lacks}
 use Rattle.arbac_policy.specs.declared.profile.Profile.{Profile}

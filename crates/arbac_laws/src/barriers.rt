@@ -17,7 +17,8 @@ pub fn barrier_laws()
         (profiles : List Profile) (set : List ℕ) → HasGains rules profiles set →
         (needs : List Need) → IsOneOf (barriers (length rules.order.names) set) needs →
         (ob : Obligation) → IsOneOf (obligations rules needs) ob →
-        (before : List Need) → pre_image rules needs ob ≡ Some before → IsCovered (barriers (length rules.order.names) set) before }
+        (before : List Need) → pre_image rules needs ob ≡ Some before →
+        IsCovered (barriers (length rules.order.names) set) before }
     ensures unmet { (rules : Rules) (profiles : List Profile) (set : List ℕ) → HasGains rules profiles set →
         (needs : List Need) → IsOneOf (barriers (length rules.order.names) set) needs → IsUnmet profiles needs }
 {}

@@ -11,5 +11,6 @@ ghost use Rattle.arbac_laws.specs.Goals.{goal_requirements};
 /// A population meets the goal exactly where it meets a possible goal requirement.
 pub fn goal_laws()
     ensures { (order : Graph) → AreEdges (length order.names) order.edges → (goal : List Term) (users : List (List ℕ)) →
-        GoalMet order.edges goal users ↔ Some_of (λ needs. IsPossible needs × Meets users needs) (goal_requirements order goal) }
+        GoalMet order.edges goal users ↔
+        Some_of (λ needs. IsPossible needs × Meets users needs) (goal_requirements order goal) }
 {}

@@ -12,6 +12,7 @@ pub fn normal_laws()
     ensures covers { (needs form : List Need) → normal_form needs ≡ Some form → Covers needs form × Covers form needs }
     ensures none { (needs : List Need) → (normal_form needs ≡ None) ↔ ¬ IsPossible needs }
     ensures normal { (needs form : List Need) → Each AreSets needs → normal_form needs ≡ Some form → IsNormal form }
-    ensures covered { (list : List (List Need)) (needs form : List Need) → normal_form needs ≡ Some form → IsCovered list needs ↔ IsCovered list form }
+    ensures covered { (list : List (List Need)) (needs form : List Need) → normal_form needs ≡ Some form →
+        IsCovered list needs ↔ IsCovered list form }
     ensures same { (a b : List Need) → IsNormal a → IsNormal b → Covers a b → Covers b a → a ≡ b }
 {}

@@ -15,10 +15,12 @@ pub fn recorded_laws()
     ensures normal { (rules : Rules) → AreEdges (length rules.order.names) rules.order.edges →
         (profiles : List Profile) (goal : List Term) (list : List Entry) → IsRecordedList rules profiles goal list →
         (place : ℕ) (entry : Entry) → slice_get list place ≡ Some entry → IsNormal entry.needs }
-    ensures uncovered { (rules : Rules) (profiles : List Profile) (goal : List Term) (list : List Entry) → IsRecordedList rules profiles goal list →
-        (i j : ℕ) (a b : Entry) → slice_get list i ≡ Some a → slice_get list j ≡ Some b → i < j → ¬ Covers a.needs b.needs }
-    ensures different { (rules : Rules) (profiles : List Profile) (goal : List Term) (list : List Entry) → IsRecordedList rules profiles goal list →
-        (i j : ℕ) (a b : Entry) → slice_get list i ≡ Some a → slice_get list j ≡ Some b → a.needs ≡ b.needs → i ≡ j }
+    ensures uncovered { (rules : Rules) (profiles : List Profile) (goal : List Term) (list : List Entry) →
+        IsRecordedList rules profiles goal list → (i j : ℕ) (a b : Entry) →
+        slice_get list i ≡ Some a → slice_get list j ≡ Some b → i < j → ¬ Covers a.needs b.needs }
+    ensures different { (rules : Rules) (profiles : List Profile) (goal : List Term) (list : List Entry) →
+        IsRecordedList rules profiles goal list → (i j : ℕ) (a b : Entry) →
+        slice_get list i ≡ Some a → slice_get list j ≡ Some b → a.needs ≡ b.needs → i ≡ j }
     ensures front { (rules : Rules) (profiles : List Profile) (goal : List Term) (list : List Entry) (n : ℕ) →
         IsRecordedList rules profiles goal list → IsRecordedList rules profiles goal (take n list) }
 {}

@@ -17,11 +17,16 @@ pub fn worked_rows()
     ensures goal { goal_requirements mix.order (has c ∷ []) ≡ (hits c ∷ []) ∷ [] }
     ensures first { obligations mix (hits c ∷ []) ≡ assigns 0 0 c 0 itself ∷ assigns 0 0 c 0 fresh ∷ [] }
     ensures itself { and_then (pre_image mix (hits c ∷ []) (assigns 0 0 c 0 itself)) normal_form ≡ None }
-    ensures fresh { and_then (pre_image mix (hits c ∷ []) (assigns 0 0 c 0 fresh)) normal_form ≡ Some (without adm ∷ hits adm ∷ []) }
-    ensures second { obligations mix (without adm ∷ hits adm ∷ []) ≡ revokes 0 adm 0 itself ∷ revokes 0 adm 0 (other 1) ∷ revokes 0 adm 0 fresh ∷ [] }
-    ensures second_itself { and_then (pre_image mix (without adm ∷ hits adm ∷ []) (revokes 0 adm 0 itself)) normal_form ≡ Some (hits adm ∷ hits adm ∷ []) }
-    ensures second_other { and_then (pre_image mix (without adm ∷ hits adm ∷ []) (revokes 0 adm 0 (other 1))) normal_form ≡ Some (anyone ∷ hits adm ∷ []) }
-    ensures second_fresh { and_then (pre_image mix (without adm ∷ hits adm ∷ []) (revokes 0 adm 0 fresh)) normal_form ≡ Some (anyone ∷ hits adm ∷ hits adm ∷ []) }
+    ensures fresh { and_then (pre_image mix (hits c ∷ []) (assigns 0 0 c 0 fresh)) normal_form ≡
+        Some (without adm ∷ hits adm ∷ []) }
+    ensures second { obligations mix (without adm ∷ hits adm ∷ []) ≡
+        revokes 0 adm 0 itself ∷ revokes 0 adm 0 (other 1) ∷ revokes 0 adm 0 fresh ∷ [] }
+    ensures second_itself { and_then (pre_image mix (without adm ∷ hits adm ∷ []) (revokes 0 adm 0 itself)) normal_form ≡
+        Some (hits adm ∷ hits adm ∷ []) }
+    ensures second_other { and_then (pre_image mix (without adm ∷ hits adm ∷ []) (revokes 0 adm 0 (other 1))) normal_form ≡
+        Some (anyone ∷ hits adm ∷ []) }
+    ensures second_fresh { and_then (pre_image mix (without adm ∷ hits adm ∷ []) (revokes 0 adm 0 fresh)) normal_form ≡
+        Some (anyone ∷ hits adm ∷ hits adm ∷ []) }
     ensures third { obligations mix (anyone ∷ hits adm ∷ []) ≡ [] }
     ensures impossible { normal_form (record { hits = (c ∷ []) ∷ []; lacks = c ∷ [] } ∷ []) ≡ None }
 {}

@@ -15,6 +15,7 @@ ghost use Rattle.arbac_laws.specs.NormalForms.{AreSets};
 pub fn set_laws()
     ensures conjuncts { (order : Graph) (cond : Term) → Each AreSets (conjuncts order cond) }
     ensures goals { (order : Graph) (goal : List Term) → Each (Each AreSets) (goal_requirements order goal) }
-    ensures pre_images { (rules : Rules) → AreEdges (length rules.order.names) rules.order.edges → (needs : List Need) → Each AreSets needs →
-        (ob : Obligation) → IsOneOf (obligations rules needs) ob → (before : List Need) → pre_image rules needs ob ≡ Some before → Each AreSets before }
+    ensures pre_images { (rules : Rules) → AreEdges (length rules.order.names) rules.order.edges →
+        (needs : List Need) → Each AreSets needs → (ob : Obligation) → IsOneOf (obligations rules needs) ob →
+        (before : List Need) → pre_image rules needs ob ≡ Some before → Each AreSets before }
 {}
