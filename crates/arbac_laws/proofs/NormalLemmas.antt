@@ -20,6 +20,11 @@ use Rattle.arbac_laws.proofs.SortLemmas.{filter_in, in_filter, in_sort, sort_by_
 use Rattle.role_order.specs.Roles.{Rises}
 use Rattle.role_order.proofs.SetLemmas.{rises-filter}
 use Rattle.arbac_laws.specs.NormalForms.{normal_form}
+use Rattle.arbac_laws.specs.Needs.{Meets, MeetsBy}
+use Rattle.arbac_laws.specs.Places.{ArePlaces}
+use Rattle.arbac_laws.proofs.MapLemmas.{get_there, get_below}
+use Rattle.arbac_laws.proofs.CoverLemmas.{covered_met}
+use Rattle.std.proofs.Common.{get_or, length, ◌<◌}
 
 -- items of lists
 
@@ -278,3 +283,24 @@ covered_alike list needs form e = let b = normal_both needs form e in (
   λ h. some_weaker (λ one. Covers one needs) (λ one. Covers one form) (λ one c. covers_join one needs form c b.0) list h,
   λ h. some_weaker (λ one. Covers one form) (λ one. Covers one needs) (λ one c. covers_join one form needs c b.1) list h,
 )
+
+-- who meets the form meets the needs, by the places to which they went
+pub placed_met : (users : List (List ℕ)) (needs form : List Need) (places : List ℕ) → ArePlaces (λ need one. normal_need need ≡ one) needs form places
+    → (met : Meets users form) → MeetsBy users needs (λ i. met.to (get_or places i 0))
+placed_met users needs form places p met = (
+  record {
+    to = λ i. met.to (get_or places i 0);
+    apart = λ i j l m e. p.apart i j (within i l) (within j m) (met.apart (get_or places i 0) (get_or places j 0) (below i l) (below j m) e);
+    each = λ i need at.
+        let one = p.each i need at in
+        let user = met.each (get_or places i 0) one.0 one.1 in
+        (user.0, user.1, covered_met need one.0 user.0 (subst (CoversNeed need) one.2 (need_normal need)) user.2);
+  },
+  λ i. refl,
+)
+  where
+    within : (i : ℕ) → i < length needs → i < length places
+    within i l = subst (λ n. i < n) (sym p.long) l
+
+    below : (i : ℕ) → i < length needs → get_or places i 0 < length form
+    below i l = let need = get_there needs i l in let one = p.each i need.0 need.1 in get_below form (get_or places i 0) one.0 one.1

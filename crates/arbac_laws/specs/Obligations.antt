@@ -50,7 +50,7 @@ is_in_range order range role =
     has_role (seniors_of order range.low) role && (has_role (seniors_of order role) range.high
     && (not (range.low_open && (role == range.low)) && not (range.high_open && (role == range.high))))
 
--- the roles of the range, rising
+-- the roles of the range, rising; a range has roles of the order alone
 abbrev pub roles_in : Graph → Range → List ℕ
 roles_in order range = filter (is_in_range order range) (count_up 0 (length order.names))
 
