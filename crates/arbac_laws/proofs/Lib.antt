@@ -21,3 +21,4 @@ pub mod BarrierLemmas
 pub mod RowLemmas
 pub mod SetsLemmas
 pub mod RecordedLemmas
+pub mod PairLemmas

@@ -43,3 +43,21 @@ anyone = record { hits = []; lacks = [] }
 -- a user with c; a user without adm beside one with it; any user beside one with adm
 abbrev pub mix_needs : List (List Need)
 mix_needs = (hits c ∷ []) ∷ (without adm ∷ hits adm ∷ []) ∷ (anyone ∷ hits adm ∷ []) ∷ []
+
+abbrev pub d : ℕ
+d = 2
+
+-- with a third role, and these exclusive pairs
+abbrev pub mix_apart : List (ℕ × ℕ) → Rules
+mix_apart pairs = record {
+  order = record { names = codes "adm" ∷ codes "c" ∷ codes "d" ∷ []; edges = [] };
+  assign = record { admin = adm; cond = Lacks adm; range = only c } ∷ [];
+  revoke = record { admin = adm; range = only adm } ∷ [];
+  assignp = [];
+  revokep = [];
+  exclusive = pairs;
+}
+
+-- a hit that either role meets
+abbrev pub hits_either : ℕ → ℕ → Need
+hits_either first second = record { hits = (first ∷ second ∷ []) ∷ []; lacks = [] }

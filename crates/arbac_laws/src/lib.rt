@@ -25,5 +25,5 @@ pub use orders::order_laws;
 pub use places::{deficient_laws, place_laws};
 pub use pre_images::{backward_laws, forward_laws, obligation_laws};
 pub use recorded::recorded_laws;
-pub use rows::{closed_row, worked_rows};
+pub use rows::{closed_row, cover_rows, pair_rows, worked_rows};
 pub use sets::set_laws;
