@@ -7,6 +7,7 @@ use Rattle.arbac_laws.specs.Needs.{Need}
 use Rattle.arbac_laws.specs.PreImages.{is_empty}
 use Rattle.arbac_laws.specs.Orders.{set_before, need_before}
 
+-- put before the first item that isn't before it
 abbrev pub insert_by : {A : Type 0} → (A → A → Bool) → A → List A → List A
 insert_by before x [] = x ∷ []
 insert_by before x (y ∷ ys) = if before y x then y ∷ insert_by before x ys else x ∷ y ∷ ys
@@ -16,6 +17,7 @@ abbrev pub sort_by : {A : Type 0} → (A → A → Bool) → List A → List A
 sort_by before [] = []
 sort_by before (x ∷ xs) = insert_by before x (sort_by before xs)
 
+-- the same, where an equal item isn't repeated
 abbrev pub insert_once : {A : Type 0} → (A → A → Bool) → A → List A → List A
 insert_once before x [] = x ∷ []
 insert_once before x (y ∷ ys) =

@@ -20,6 +20,7 @@ pub data Obligation : Type 0 where
   assigns : ℕ → ℕ → ℕ → ℕ → Pick → Obligation
   revokes : ℕ → ℕ → ℕ → Pick → Obligation
 
+-- assignments and weak revocations alone are obligations
 abbrev pub kind_of : Obligation → ActKind
 kind_of (assigns rule conjunct role target pick) = Assign
 kind_of (revokes rule role target pick) = Weak
@@ -45,6 +46,7 @@ act_of ob count to = record {
   role = role_of ob;
 }
 
+-- the role stands between the ends, and is no end that is open
 abbrev pub is_in_range : Graph → Range → ℕ → Bool
 is_in_range order range role =
     has_role (seniors_of order range.low) role && (has_role (seniors_of order role) range.high

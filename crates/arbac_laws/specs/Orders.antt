@@ -13,6 +13,7 @@ list_before before (x ∷ xs) (y ∷ ys) = before x y || (not (before y x) && li
 abbrev pub set_before : List ℕ → List ℕ → Bool
 set_before = list_before nat_lt
 
+-- lists of hits as lists of sets
 abbrev pub hits_before : List (List ℕ) → List (List ℕ) → Bool
 hits_before = list_before set_before
 

@@ -37,6 +37,7 @@ before_assign rules conjunct role need =
       lacks = join_roles need.lacks (join_roles conjunct.lacks (barred rules.order role rules.exclusive));
     })
 
+-- the set has no role
 abbrev pub is_empty : List ℕ → Bool
 is_empty [] = true
 is_empty (x ∷ xs) = false
@@ -59,6 +60,7 @@ pub data Pick : Type 0 where
   other : ℕ → Pick
   fresh : Pick
 
+-- the user requirement with one more hit
 abbrev pub add_hit : List ℕ → Need → Need
 add_hit hit need = record { hits = hit ∷ need.hits; lacks = need.lacks }
 
@@ -126,6 +128,7 @@ pub record WeakObligation (rules : Rules) (needs : List Need) : Type 0 where
   pub before : Need
   pub before_is : before_weak role need ≡ Some before
 
+-- its pre-image, made in the same way
 abbrev pub weak_pre_image : {rules : Rules} {needs : List Need} → WeakObligation rules needs → List Need
 weak_pre_image {rules} {needs} ob =
     with_admin ob.pick ob.target (seniors_of rules.order ob.rule.admin) (slice_set needs ob.target ob.before)
