@@ -1,0 +1,167 @@
+-- The small policy, computed, and a closed list for it.
+use Rattle.std.proofs.Common.{ℕ, ◌≡◌, ◌≤◌, List, [], ◌∷◌, length, Some, None, Option, arith, zero, suc, sym, ◌∙◌, ap, eqb, true, subst, refl, inl, inr}
+use Rattle.std.specs.Prelude.{slice_get}
+use Rattle.std.proofs.lemmas.Bool.{eq-eqb}
+use Rattle.role_order.specs.Lists.{Each}
+use Rattle.role_order.specs.Reach.{seniors_of}
+use Rattle.role_order.specs.Roles.{IsIn}
+use Rattle.arbac_policy.specs.Goals.{AreUsers, IsDrawn, times}
+use Rattle.arbac_policy.specs.Truth.{Term, term_level, term_of, has, lacks}
+use Rattle.arbac_policy.specs.declared.cond.Cond.{fold-Cond, fold-roll-Cond}
+use Rattle.arbac_policy.specs.declared.cond.Cond.TheVariants.{Lacks, rolls-Lacks}
+use Rattle.arbac_policy.specs.declared.profile.Profile.{Profile}
+use Rattle.arbac_policy.specs.declared.cond.Cond.TheOpen as open'
+use Rattle.arbac_laws.specs.Closed.{IsClosedList, IsUnmet}
+use Rattle.arbac_laws.specs.Goals.{goal_requirements}
+use Rattle.arbac_laws.specs.Needs.{CoversNeed, IsCovered, IsPossible, Meets, MeetsNeed, Need}
+use Rattle.arbac_laws.specs.NormalForms.{normal_form}
+use Rattle.arbac_laws.specs.Obligations.{Obligation, and_then, obligations, pre_image, assigns, revokes}
+use Rattle.arbac_laws.specs.PreImages.{itself, other, fresh}
+use Rattle.arbac_laws.specs.Rows.{mix, adm, c, hits, without, anyone, one_admin, mix_needs}
+use Rattle.arbac_laws.proofs.BarrierLemmas.{drawn_profile}
+use Rattle.arbac_laws.proofs.CountLemmas.{embeds_long}
+use Rattle.arbac_laws.proofs.CoverLemmas.{covers_itself}
+use Rattle.arbac_laws.proofs.ListLemmas.{each_is}
+use Rattle.arbac_laws.proofs.MapLemmas.{embeds_front, embeds_itself, embeds_none, same_some}
+use Rattle.arbac_laws.proofs.NormalLemmas.{covered_alike, none_impossible}
+use Rattle.std.proofs.Common.{false, true}
+use Rattle.std.proofs.lemmas.Bool.{eqb-true}
+use Rattle.role_order.proofs.SetLemmas.{or_cases}
+use Rattle.std.specs.Prelude.{◌⊎◌}
+
+-- the condition that is no member of adm
+pub lacks_adm : term_of (Lacks adm) ≡ lacks adm
+lacks_adm = ap (fold-Cond Term term_level) (sym (rolls-Lacks adm)) ∙ fold-roll-Cond Term term_level (open'.Lacks adm)
+
+-- each step of the search, computed
+
+pub goal_is : goal_requirements mix.order (has c ∷ []) ≡ (hits c ∷ []) ∷ []
+unfolding seniors_of
+goal_is = refl
+
+pub first_obligations : obligations mix (hits c ∷ []) ≡ assigns 0 0 c 0 itself ∷ assigns 0 0 c 0 fresh ∷ []
+unfolding seniors_of
+first_obligations = rw lacks_adm refl
+
+pub first_itself : and_then (pre_image mix (hits c ∷ []) (assigns 0 0 c 0 itself)) normal_form ≡ None
+unfolding seniors_of
+first_itself = rw lacks_adm refl
+
+pub first_fresh : and_then (pre_image mix (hits c ∷ []) (assigns 0 0 c 0 fresh)) normal_form ≡ Some (without adm ∷ hits adm ∷ [])
+unfolding seniors_of
+first_fresh = rw lacks_adm refl
+
+pub second_obligations : obligations mix (without adm ∷ hits adm ∷ []) ≡ revokes 0 adm 0 itself ∷ revokes 0 adm 0 (other 1) ∷ revokes 0 adm 0 fresh ∷ []
+unfolding seniors_of
+second_obligations = rw lacks_adm refl
+
+pub second_itself : and_then (pre_image mix (without adm ∷ hits adm ∷ []) (revokes 0 adm 0 itself)) normal_form ≡ Some (hits adm ∷ hits adm ∷ [])
+unfolding seniors_of
+second_itself = refl
+
+pub second_other : and_then (pre_image mix (without adm ∷ hits adm ∷ []) (revokes 0 adm 0 (other 1))) normal_form ≡ Some (anyone ∷ hits adm ∷ [])
+unfolding seniors_of
+second_other = refl
+
+pub second_fresh : and_then (pre_image mix (without adm ∷ hits adm ∷ []) (revokes 0 adm 0 fresh)) normal_form ≡ Some (anyone ∷ hits adm ∷ hits adm ∷ [])
+unfolding seniors_of
+second_fresh = refl
+
+pub third_obligations : obligations mix (anyone ∷ hits adm ∷ []) ≡ []
+unfolding seniors_of
+third_obligations = rw lacks_adm refl
+
+-- what is covered
+
+pub anyone_covers : (need : Need) → CoversNeed anyone need
+anyone_covers need = record { hits = tt; lacks = λ role h. cc }
+
+pub covered_second : IsCovered mix_needs (without adm ∷ hits adm ∷ [])
+covered_second = inr (inl (embeds_itself CoversNeed covers_itself (without adm ∷ hits adm ∷ [])))
+
+pub covered_third : (need : Need) (needs : List Need) → IsCovered mix_needs (need ∷ hits adm ∷ needs)
+covered_third need needs = inr (inr (inl (embeds_front CoversNeed anyone need (hits adm ∷ []) (hits adm ∷ needs) (anyone_covers need)
+    (embeds_front CoversNeed (hits adm) (hits adm) [] needs (covers_itself (hits adm)) (embeds_none CoversNeed needs)))))
+
+-- the pre-image of the obligation is covered, if it is possible
+abbrev pub IsMet : List Need → Obligation → Type 0
+IsMet needs ob = (before : List Need) → pre_image mix needs ob ≡ Some before → IsPossible before → IsCovered mix_needs before
+
+pub form_of : (needs : List Need) (ob : Obligation) (before : List Need) (form : Option (List Need)) → and_then (pre_image mix needs ob) normal_form ≡ form
+    → pre_image mix needs ob ≡ Some before → normal_form before ≡ form
+form_of needs ob before form n e = sym (ap (λ o. and_then o normal_form) e) ∙ n
+
+pub by_none : (needs : List Need) (ob : Obligation) → and_then (pre_image mix needs ob) normal_form ≡ None → IsMet needs ob
+by_none needs ob n before e possible = absurd ((none_impossible before).0 (form_of needs ob before None n e) possible)
+
+pub by_form : (needs : List Need) (ob : Obligation) (form : List Need) → and_then (pre_image mix needs ob) normal_form ≡ Some form → IsCovered mix_needs form → IsMet needs ob
+by_form needs ob form n covered before e possible = (covered_alike mix_needs before form (form_of needs ob before (Some form) n e)).1 covered
+
+pub first_met : Each (IsMet (hits c ∷ [])) (obligations mix (hits c ∷ []))
+first_met = subst (Each (IsMet (hits c ∷ []))) (sym first_obligations) (
+  by_none (hits c ∷ []) (assigns 0 0 c 0 itself) first_itself,
+  (by_form (hits c ∷ []) (assigns 0 0 c 0 fresh) (without adm ∷ hits adm ∷ []) first_fresh covered_second, tt),
+)
+
+pub second_met : Each (IsMet (without adm ∷ hits adm ∷ [])) (obligations mix (without adm ∷ hits adm ∷ []))
+second_met = subst (Each (IsMet (without adm ∷ hits adm ∷ []))) (sym second_obligations) (
+  by_form (without adm ∷ hits adm ∷ []) (revokes 0 adm 0 itself) (hits adm ∷ hits adm ∷ []) second_itself (covered_third (hits adm) []),
+  (
+    by_form (without adm ∷ hits adm ∷ []) (revokes 0 adm 0 (other 1)) (anyone ∷ hits adm ∷ []) second_other (covered_third anyone []),
+    (by_form (without adm ∷ hits adm ∷ []) (revokes 0 adm 0 fresh) (anyone ∷ hits adm ∷ hits adm ∷ []) second_fresh (covered_third anyone (hits adm ∷ [])), tt),
+  ),
+)
+
+pub third_met : Each (IsMet (anyone ∷ hits adm ∷ [])) (obligations mix (anyone ∷ hits adm ∷ []))
+third_met = subst (Each (IsMet (anyone ∷ hits adm ∷ []))) (sym third_obligations) tt
+
+-- drawn populations: at most one user, who has adm alone
+
+pub one_profile : (place : ℕ) (profile : Profile) → slice_get one_admin place ≡ Some profile → (place ≡ 0) × (profile.set ≡ adm ∷ [])
+one_profile zero profile e = let e' : Some (record { set = adm ∷ []; most = Some 1 }) ≡ Some profile = e in (refl, sym (ap (λ (p : Profile). p.set) (same_some (record { set = adm ∷ []; most = Some 1 }) profile e')))
+one_profile (suc place) profile e = cc
+
+pub as_often : (choice : List ℕ) (users : List (List ℕ)) → AreUsers one_admin choice users → length users ≡ times 0 choice
+as_often [] [] are = refl
+as_often [] (u ∷ us) are = absurd are
+as_often (p ∷ ps) [] are = absurd are
+as_often (p ∷ ps) (u ∷ us) are =
+    let first = (one_profile p are.0.0 are.0.1).0 in
+    let rest = as_often ps us are.1 in
+    let one : eqb p 0 ≡ true = eq-eqb p 0 first in
+    rw one (omega (arith, rest))
+
+pub few_users : (users : List (List ℕ)) → IsDrawn one_admin users → length users ≤ 1
+few_users users drawn =
+    let few = drawn.drawn.few 0 (record { set = adm ∷ []; most = Some 1 }) 1 refl refl in
+    let long = as_often drawn.choice users drawn.are_users in
+    omega (arith, few, long)
+
+pub nobody_has_c : (users : List (List ℕ)) → IsDrawn one_admin users → Meets users (hits c ∷ []) → ⊥
+nobody_has_c users drawn f =
+    let one = f.each 0 (hits c) refl in
+    let d = drawn_profile one_admin drawn.choice users drawn.are_users (f.to 0) one.0 one.1 in
+    let set : one.0 ≡ adm ∷ [] = d.3 ∙ (one_profile d.0 d.1 d.2).1 in
+    let common = one.2.hits.0 in
+    apart common.0 common.1 (subst (λ s. IsIn s common.0) set common.2)
+  where
+    apart : (role : ℕ) → IsIn (c ∷ []) role → IsIn (adm ∷ []) role → ⊥
+    apart role h k = by_cases (or_cases (eqb c role) false h) (or_cases (eqb adm role) false k)
+      where
+        by_cases : (eqb c role ≡ true) ⊎ (false ≡ true) → (eqb adm role ≡ true) ⊎ (false ≡ true) → ⊥
+        by_cases (inl e) (inl f) = let one : 1 ≡ role = eqb-true 1 role e in let none : 0 ≡ role = eqb-true 0 role f in omega (arith, one, none)
+        by_cases (inl e) (inr f) = cc
+        by_cases (inr e) f = cc
+
+pub two_users : (a b : Need) (users : List (List ℕ)) → IsDrawn one_admin users → Meets users (a ∷ b ∷ []) → ⊥
+two_users a b users drawn f = let few = few_users users drawn in let long = embeds_long MeetsNeed (a ∷ b ∷ []) users f in omega (arith, few, long)
+
+pub mix_closed : IsClosedList mix one_admin (has c ∷ []) mix_needs
+mix_closed = record {
+  goals = λ needs is possible. each_is (IsCovered mix_needs) (goal_requirements mix.order (has c ∷ [])) needs is.0
+      (subst (Each (IsCovered mix_needs)) (sym goal_is) (inl (embeds_itself CoversNeed covers_itself (hits c ∷ [])), tt)) is.1;
+  pre_images = λ needs is ob at before e possible.
+      let all = each_is (λ needs. Each (IsMet needs) (obligations mix needs)) mix_needs needs is.0 (first_met, (second_met, (third_met, tt))) is.1 in
+      each_is (IsMet needs) (obligations mix needs) ob at.0 all at.1 before e possible;
+  unmet = λ needs is. each_is (IsUnmet one_admin) mix_needs needs is.0 (nobody_has_c, (two_users (without adm) (hits adm), (two_users anyone (hits adm), tt))) is.1;
+}

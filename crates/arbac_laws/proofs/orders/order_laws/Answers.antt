@@ -1,0 +1,5 @@
+use Rattle.arbac_laws.proofs.OrderLemmas.{set_order, hits_order, need_order, requirement_order}
+use Rattle.arbac_laws.proofs.orders.order_laws.Goals as goal
+
+pub returns : goal.returns
+returns c = record { sets = set_order; hits = hits_order; needs = need_order; requirements = requirement_order }

@@ -1,0 +1,5 @@
+use Rattle.arbac_laws.proofs.PairLemmas.{one_is_not_two, lacks_not_covering, either_covers, lesser_not_covering, lacking_covered}
+use Rattle.arbac_laws.proofs.rows.cover_rows.Goals as goal
+
+pub returns : goal.returns
+returns _ = record { two = one_is_not_two; lacks = lacks_not_covering; hit = either_covers; lesser = lesser_not_covering; lacking = lacking_covered }

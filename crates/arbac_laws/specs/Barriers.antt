@@ -1,0 +1,38 @@
+-- Barriers: the roles that no run gives to anyone.
+use Rattle.std.specs.Prelude.{ℕ, ◌≡◌, not, if◌then◌else◌, List, [], ◌∷◌, filter, Some}
+use Rattle.role_order.specs.Lists.{IsOneOf}
+use Rattle.role_order.specs.Roles.{has_role, IsIn, IsWithin, HaveCommon}
+use Rattle.role_order.specs.Reach.{count_up, seniors_of}
+use Rattle.role_order.specs.Ranges.{IsInRange}
+use Rattle.arbac_policy.specs.declared.profile.Profile.{Profile}
+use Rattle.arbac_policy.specs.declared.rule.CanAssign.{CanAssign}
+use Rattle.arbac_policy.specs.Truth.{term_of}
+use Rattle.arbac_policy.specs.Rules.{Rules}
+use Rattle.arbac_laws.specs.Needs.{Need, HasHits}
+use Rattle.arbac_laws.specs.Conjuncts.{conjuncts}
+use Rattle.arbac_laws.specs.PreImages.{is_empty}
+
+-- the set has all roles of each profile whose count isn't 0, and all roles of a rule's range where it
+-- has a senior of the administrative role and a role of each hit of a conjunct
+pub record HasGains (rules : Rules) (profiles : List Profile) (set : List ℕ) : Type 0 where
+  pub drawn : (profile : Profile) → IsOneOf profiles profile → ¬ (profile.most ≡ Some 0) → IsWithin profile.set set
+  pub given : (rule : CanAssign) → IsOneOf rules.assign rule → HaveCommon (seniors_of rules.order rule.admin) set
+      → (conjunct : Need) → IsOneOf (conjuncts rules.order (term_of rule.cond)) conjunct → HasHits set conjunct.hits
+      → (role : ℕ) → IsInRange rules.order rule.range role → IsIn set role
+
+-- the least such set
+pub record IsCeiling (rules : Rules) (profiles : List Profile) (set : List ℕ) : Type 0 where
+  pub gains : HasGains rules profiles set
+  pub least : (other : List ℕ) → HasGains rules profiles other → IsWithin set other
+
+-- all roles outside the set
+abbrev pub outside : ℕ → List ℕ → List ℕ
+outside count set = filter (λ role. not (has_role set role)) (count_up 0 count)
+
+-- one user, whose only hit is all roles outside
+abbrev pub barrier : ℕ → List ℕ → List Need
+barrier count set = record { hits = outside count set ∷ []; lacks = [] } ∷ []
+
+-- one barrier where roles stand outside, and none otherwise
+abbrev pub barriers : ℕ → List ℕ → List (List Need)
+barriers count set = if is_empty (outside count set) then [] else barrier count set ∷ []

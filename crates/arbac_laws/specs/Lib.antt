@@ -1,0 +1,12 @@
+pub mod Needs
+pub mod Conjuncts
+pub mod Goals
+pub mod PreImages
+pub mod Obligations
+pub mod Orders
+pub mod NormalForms
+pub mod Places
+pub mod Closed
+pub mod Recorded
+pub mod Barriers
+pub mod Rows

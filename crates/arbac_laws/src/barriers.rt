@@ -1,0 +1,28 @@
+//! Laws of barriers.
+
+ghost use Rattle.std.specs.Prelude.{ℕ, List, length, ◌≡◌, Some};
+ghost use Rattle.role_order.specs.Lists.{IsOneOf};
+ghost use Rattle.role_order.specs.Roles.{IsWithin};
+ghost use Rattle.role_order.specs.Graph.{AreEdges};
+ghost use Rattle.arbac_policy.specs.declared.profile.Profile.{Profile};
+ghost use Rattle.arbac_policy.specs.Rules.{Rules, IsPolicy};
+ghost use Rattle.arbac_laws.specs.Needs.{Need, IsCovered};
+ghost use Rattle.arbac_laws.specs.Obligations.{Obligation, obligations, pre_image};
+ghost use Rattle.arbac_laws.specs.Closed.{IsUnmet};
+ghost use Rattle.arbac_laws.specs.Barriers.{HasGains, IsCeiling, barriers};
+
+/// Outside any set that has what is drawn and what the rules give, so also outside the ceiling: each
+/// pre-image of a barrier is covered by a barrier, and no drawn population meets one. There is one
+/// ceiling.
+pub fn barrier_laws()
+    ensures closed { (rules : Rules) → AreEdges (length rules.order.names) rules.order.edges → IsPolicy rules →
+        (profiles : List Profile) (set : List ℕ) → HasGains rules profiles set →
+        (needs : List Need) → IsOneOf (barriers (length rules.order.names) set) needs →
+        (ob : Obligation) → IsOneOf (obligations rules needs) ob →
+        (before : List Need) → pre_image rules needs ob ≡ Some before →
+        IsCovered (barriers (length rules.order.names) set) before }
+    ensures ceiling { (rules : Rules) (profiles : List Profile) (a b : List ℕ) →
+        IsCeiling rules profiles a → IsCeiling rules profiles b → IsWithin a b × IsWithin b a }
+    ensures unmet { (rules : Rules) (profiles : List Profile) (set : List ℕ) → HasGains rules profiles set →
+        (needs : List Need) → IsOneOf (barriers (length rules.order.names) set) needs → IsUnmet profiles needs }
+{}

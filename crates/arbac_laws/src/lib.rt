@@ -1,0 +1,29 @@
+//! Laws of requirements: cover, conjuncts, pre-images, closed lists, normal forms and barriers.
+//! Each function computes nothing; its clauses are the laws.
+#![tactic(auto)]
+
+mod barriers;
+mod closed;
+mod conjuncts;
+mod cover;
+mod goals;
+mod normal_forms;
+mod orders;
+mod places;
+mod pre_images;
+mod recorded;
+mod rows;
+mod sets;
+
+pub use barriers::barrier_laws;
+pub use closed::closed_laws;
+pub use conjuncts::conjunct_laws;
+pub use cover::cover_laws;
+pub use goals::goal_laws;
+pub use normal_forms::normal_laws;
+pub use orders::order_laws;
+pub use places::{deficient_laws, place_laws};
+pub use pre_images::{backward_laws, forward_laws, obligation_laws};
+pub use recorded::recorded_laws;
+pub use rows::{closed_row, cover_rows, pair_rows, worked_rows};
+pub use sets::set_laws;

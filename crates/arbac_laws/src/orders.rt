@@ -1,0 +1,11 @@
+//! Laws of the orders.
+
+ghost use Rattle.arbac_laws.specs.Orders.{IsTotalOrder, set_before, hits_before, need_before, requirement_before};
+
+/// Sets, lists of hits, user requirements and requirements are in a strict total order each.
+pub fn order_laws()
+    ensures sets { IsTotalOrder set_before }
+    ensures hits { IsTotalOrder hits_before }
+    ensures needs { IsTotalOrder need_before }
+    ensures requirements { IsTotalOrder requirement_before }
+{}
