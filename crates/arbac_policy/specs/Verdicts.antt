@@ -81,7 +81,9 @@ WeaksDenied holder rules users old admin target (role ∷ roles) part =
 abbrev pub StrongDenied : Holder → Rules → List (List ℕ) → List (List ℕ) → ℕ → ℕ → ℕ → Part → Type 0
 StrongDenied holder rules users old admin target role part =
     PlaceFails users old admin target part
-    ⊎ ((set : List ℕ) × (slice_get old target ≡ Some set) × WeaksDenied holder rules users old admin target (falling holder rules.order set role) part)
+    ⊎ ((by : List ℕ) × (set : List ℕ) × (slice_get users admin ≡ Some by) × (slice_get old target ≡ Some set)
+    × (((part ≡ NoRole role) × (length rules.order.names ≤ role))
+    ⊎ ((role < length rules.order.names) × WeaksDenied holder rules users old admin target (falling holder rules.order set role) part)))
 
 abbrev pub KindDenied : ActKind → Holder → Rules → List (List ℕ) → List (List ℕ) → ℕ → ℕ → ℕ → Part → Type 0
 KindDenied Assign = AssignDenied

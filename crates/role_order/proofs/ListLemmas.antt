@@ -3,7 +3,7 @@ use Rattle.std.proofs.lemmas.Bool.{eqb-true}
 use Rattle.std.proofs.lemmas.Bool.Decides.{nat_tests}
 use Rattle.std.proofs.Common.{ℕ, ◌≡◌, ◌<◌, ◌≤◌, ◌+◌, Bool, true, false, eqb, List, [], ◌∷◌, length, get_or, take, refl, arith, zero, suc, sym, subst, ap, ◌∙◌, ◌++◌, inl, inr, Some, None}
 use Rattle.std.specs.Prelude.{slice_get, Contains, ◌⊎◌}
-use Rattle.role_order.specs.Lists.{Each}
+use Rattle.role_order.specs.Lists.{Each, Some_of}
 
 pub each_of : {A : Type 0} (P : A → Type 0) (xs : List A) → ((k : ℕ) (x : A) → slice_get xs k ≡ Some x → P x) → Each P xs
 each_of P [] h = tt
@@ -80,3 +80,13 @@ pub get_any : {A : Type 0} (xs : List A) (k : ℕ) (d e : A) → k < length xs �
 get_any [] k d e l = absurd (omega arith)
 get_any (x ∷ xs) zero d e l = refl
 get_any (x ∷ xs) (suc k) d e l = get_any xs k d e (omega arith)
+
+pub some_at : {A : Type 0} (P : A → Type 0) (xs : List A) (k : ℕ) (x : A) → slice_get xs k ≡ Some x → P x → Some_of P xs
+some_at P [] k x e p = cc
+some_at P (y ∷ ys) zero x e p = let same : x ≡ y = cc in inl (subst P same p)
+some_at P (y ∷ ys) (suc k) x e p = inr (some_at P ys k x e p)
+
+pub some_none : {A : Type 0} (P : A → Type 0) (xs : List A) → ((k : ℕ) (x : A) → slice_get xs k ≡ Some x → P x → ⊥) → Some_of P xs → ⊥
+some_none P [] none h = h
+some_none P (x ∷ xs) none (inl p) = none 0 x refl p
+some_none P (x ∷ xs) none (inr h) = some_none P xs (λ k y e p. none (suc k) y e p) h

@@ -2,9 +2,10 @@
 use Rattle.std.proofs.Common.{ℕ, ◌≡◌, ◌+◌, ◌<◌, ◌≤◌, Bool, true, false, not, ◌||◌, ◌&&◌, cond, eqb, ltb, List, [], ◌∷◌, length, get_or, set, refl, arith, zero, suc, ap, sym, ◌∙◌}
 use Rattle.std.specs.Prelude.{filter}
 use Rattle.std.specs.List.{list_any, list_all}
-use Rattle.std.proofs.lemmas.Bool.{ne_eqb, eq-eqb}
+use Rattle.std.proofs.lemmas.Bool.{ne_eqb, eq-eqb, false≢true}
 use Rattle.std.proofs.lemmas.Bool.Decides.{nat_tests}
-use Rattle.role_order.specs.Roles.{has_role, with_role, without_role, less_roles, is_within, have_common, join_roles}
+use Rattle.role_order.specs.Lists.{Each}
+use Rattle.role_order.specs.Roles.{has_role, with_role, without_role, less_roles, is_within, have_common, join_roles, IsIn, Rises, IsRoleSet}
 use Rattle.role_order.specs.Places.{places, row, has_role-places_below}
 
 pub has_role-places : (at : ℕ) (bs : List Bool) (k : ℕ) → has_role (places at bs) (at + k) ≡ get_or bs k false
@@ -206,3 +207,28 @@ pub places-joined : (as' bs cs : List Bool) → length as' ≡ length bs → len
 places-joined as' bs cs h e each =
     let same : cs ≡ either_row as' bs = same_row cs (either_row as' bs) (e ∙ sym (length-either_row as' bs h)) (λ k l. each k l ∙ sym (get_or-either_row as' bs k h)) in
     rw same (places-either_row 0 as' bs h)
+
+-- the places of a row rise, and are those of the row
+places_above : (low at : ℕ) (bs : List Bool) → low < at → Each (λ y. low < y) (places at bs)
+unfolding places
+places_above low at [] h = tt
+places_above low at (false ∷ bs) h = places_above low (at + 1) bs (omega arith)
+places_above low at (true ∷ bs) h = (h, places_above low (at + 1) bs (omega arith))
+
+pub rises-places : (at : ℕ) (bs : List Bool) → Rises (places at bs)
+unfolding places
+rises-places at [] = tt
+rises-places at (false ∷ bs) = rises-places (at + 1) bs
+rises-places at (true ∷ bs) = (places_above at (at + 1) bs (omega arith), rises-places (at + 1) bs)
+
+below-places : (bs : List Bool) (role : ℕ) → IsIn (places 0 bs) role → role < length bs
+below-places bs role h = by_length (ltb role (length bs)) refl
+  where
+    by_length : (t : Bool) → ltb role (length bs) ≡ t → role < length bs
+    by_length true e = grind (arith, nat_tests)
+    by_length false e =
+        let past : length bs ≤ role = grind (arith, nat_tests) in
+        absurd (false≢true (sym (get_or_past bs role past) ∙ sym (has_role-places_0 bs role) ∙ h))
+
+pub role_set_of : (bs : List Bool) → length bs ≡ 250 → IsRoleSet (places 0 bs)
+role_set_of bs e = record { rises = rises-places 0 bs; below = λ role h. omega (arith, below-places bs role h) }

@@ -2,6 +2,7 @@
 use Rattle.std.specs.Prelude.{ℕ, ◌≡◌, ◌<◌, Bool, true, false, not, ◌==◌, ◌||◌, nat_lt, if◌then◌else◌, List, [], ◌∷◌, filter}
 use Rattle.std.specs.List.{list_any, list_all}
 use Rattle.role_order.specs.Lists.{Each}
+use Rattle.role_order.specs.declared.TheConstants.{MOST_ROLES}
 
 -- whether the role is in the set
 abbrev pub has_role : List ℕ → ℕ → Bool
@@ -28,7 +29,11 @@ is_within xs ys = list_all (has_role ys) xs
 abbrev pub have_common : List ℕ → List ℕ → Bool
 have_common xs ys = list_any (has_role ys) xs
 
--- the roles of both
+-- the roles of the first that are in the second
+abbrev pub common_roles : List ℕ → List ℕ → List ℕ
+common_roles xs ys = filter (has_role ys) xs
+
+-- the roles of one or the other
 abbrev pub join_roles : List ℕ → List ℕ → List ℕ
 join_roles [] ys = ys
 join_roles (x ∷ xs) ys = with_role (join_roles xs ys) x
@@ -59,3 +64,8 @@ AreBelow count set = (role : ℕ) → IsIn set role → role < count
 abbrev pub Rises : List ℕ → Type 0
 Rises [] = Unit {0}
 Rises (x ∷ xs) = Each (λ y. x < y) xs × Rises xs
+
+-- the list of a role set: it rises strictly, and each role is below 250
+pub record IsRoleSet (set : List ℕ) : Type 0 where
+  pub rises : Rises set
+  pub below : AreBelow MOST_ROLES set

@@ -10,7 +10,7 @@ ghost use Rattle.role_order.specs.Roles.{IsIn, Rises};
 
 use crate::MOST_ROLES;
 use crate::closure::{Closure, close, first_outside};
-use crate::names::{first_bad, first_repeated, place_in, place_of_bytes};
+use crate::names::{first_bad, first_repeated, place_in};
 use crate::range::Range;
 use crate::role_set::RoleSet;
 use std::alloc::{AllocError, AllocFailed, Global};
@@ -206,10 +206,7 @@ impl Order {
         ensures role { IfSome result (λ role. role < length self.now.names) }
         ensures place { result ≡ place_of self.now.names text.now }
     {
-        match place_in(&self.names, text) {
-            Some(at) => Some(at as u16),
-            None => None,
-        }
+        self.role_of_bytes(text.as_bytes())
     }
 
     /// The role of the name that has these bytes, and none exactly where no name has them.
@@ -217,7 +214,7 @@ impl Order {
         ensures role { IfSome result (λ role. role < length self.now.names) }
         ensures place { result ≡ place_of self.now.names bytes.now }
     {
-        match place_of_bytes(&self.names, bytes) {
+        match place_in(&self.names, bytes) {
             Some(at) => Some(at as u16),
             None => None,
         }

@@ -20,5 +20,5 @@ loop-place-preserved c =
       table = rw c.add_edge.ensures (subst (λ t. AreAbove c.args.count t (raised c.loop-place.above.items edge.0 edge.1)) (sym more)
           (raised_above c.args.count (take c.loop-place.place c.args.edges.now) c.loop-place.above.items edge.0 edge.1 c.loop-place.invariant.table ends.0 ends.1));
       acyclic = acyclic_more c.args.edges.now c.loop-place.place edge at c.loop-place.invariant.acyclic
-          (λ back. false≢true (sym c.if-has.false ∙ c.has.ensures ∙ (c.loop-place.invariant.table.each edge.0 c.index.result.now senior_at edge.1).1 back));
+          (λ back. false≢true (sym c.if-has.false ∙ c.has.ensures.value ∙ (c.loop-place.invariant.table.each edge.0 c.index.result.now senior_at edge.1).1 back));
     }

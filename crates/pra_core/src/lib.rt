@@ -1,0 +1,6 @@
+//! Verdicts on acts on permissions (PRA97), the dual of those on users.
+#![tactic(auto)]
+
+mod decision;
+
+pub use decision::decide_perm;

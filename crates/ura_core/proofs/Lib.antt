@@ -1,0 +1,6 @@
+pub mod MemberLemmas
+pub mod StepLemmas
+pub mod FallingLemmas
+pub mod AnswerLemmas
+pub mod DenialLemmas
+pub mod StrongLemmas

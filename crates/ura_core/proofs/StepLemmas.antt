@@ -1,0 +1,169 @@
+-- Steps of weak revocations one after another, and why a denied act has no step.
+use Rattle.std.proofs.Common.{ℕ, ◌≡◌, ◌<◌, ◌≤◌, ◌+◌, ◌∙◌, Bool, true, false, not, ◌||◌, ◌&&◌, cond, eqb, ltb, List, [], ◌∷◌, ◌++◌, length, refl, arith, zero, suc, sym, subst, ap, inl, inr, Some, None}
+use Rattle.std.specs.Prelude.{◌⊎◌, ◌↔◌, filter, nat_lt, slice_get, slice_set}
+use Rattle.std.proofs.lemmas.Bool.{eqb-true, eq-eqb, ne_eqb}
+use Rattle.std.proofs.lemmas.Bool.Decides.{nat_tests}
+use Rattle.role_order.specs.Lists.{Each, Some_of, IsFirst}
+use Rattle.role_order.specs.Roles.{has_role, with_role, without_role, less_roles, IsIn, Rises}
+use Rattle.role_order.proofs.ListLemmas.{some_at}
+use Rattle.role_order.proofs.SetLemmas.{or_cases, or_right, has_role-with_role, has_role-above, each_weaker}
+use Rattle.arbac_policy.specs.Truth.{Holder, user, permission}
+use Rattle.arbac_policy.specs.Rules.{Rules}
+use Rattle.arbac_policy.specs.Holders.{assign_rules, revoke_rules, pairs_of, admins_of}
+use Rattle.arbac_policy.specs.Steps.{Blocks, LetsAssign, LetsRevoke, AssignStep, WeakStep, WeakSteps}
+use Rattle.arbac_policy.specs.Verdicts.{WeakDenied, WeaksDenied}
+use Rattle.arbac_policy.specs.declared.verdict.Part.{Part}
+
+pub get_set : {A : Type 0} (xs : List A) (i : ℕ) (x y : A) → slice_get xs i ≡ Some x → slice_get (slice_set xs i y) i ≡ Some y
+get_set [] i x y e = cc
+get_set (z ∷ zs) zero x y e = refl
+get_set (z ∷ zs) (suc i) x y e = get_set zs i x y e
+
+pub get_set_other : {A : Type 0} (xs : List A) (i k : ℕ) (y : A) → (i ≡ k → ⊥) → slice_get (slice_set xs i y) k ≡ slice_get xs k
+get_set_other [] i k y n = refl
+get_set_other (z ∷ zs) zero zero y n = absurd (n refl)
+get_set_other (z ∷ zs) zero (suc k) y n = refl
+get_set_other (z ∷ zs) (suc i) zero y n = refl
+get_set_other (z ∷ zs) (suc i) (suc k) y n = get_set_other zs i k y (λ e. n (ap suc e))
+
+pub set_twice : {A : Type 0} (xs : List A) (i : ℕ) (x y : A) → slice_set (slice_set xs i x) i y ≡ slice_set xs i y
+set_twice [] i x y = refl
+set_twice (z ∷ zs) zero x y = refl
+set_twice (z ∷ zs) (suc i) x y = ap (λ t. z ∷ t) (set_twice zs i x y)
+
+pub set_same : {A : Type 0} (xs : List A) (i : ℕ) (x : A) → slice_get xs i ≡ Some x → slice_set xs i x ≡ xs
+set_same [] i x e = refl
+set_same (z ∷ zs) zero x e = let same : z ≡ x = cc in ap (λ t. t ∷ zs) (sym same)
+set_same (z ∷ zs) (suc i) x e = ap (λ t. z ∷ t) (set_same zs i x e)
+
+pub some_weaker : {A : Type 0} (P Q : A → Type 0) (xs : List A) → ((x : A) → P x → Q x) → Some_of P xs → Some_of Q xs
+some_weaker P Q [] f h = h
+some_weaker P Q (x ∷ xs) f (inl p) = inl (f x p)
+some_weaker P Q (x ∷ xs) f (inr h) = inr (some_weaker P Q xs f h)
+
+pub some_item : {A : Type 0} (P : A → Type 0) (xs : List A) → Some_of P xs → (x : A) × P x
+some_item P [] h = absurd h
+some_item P (x ∷ xs) (inl p) = (x, p)
+some_item P (x ∷ xs) (inr h) = some_item P xs h
+
+-- the roles below a number, and the next one where it is there
+pub below_next : (xs : List ℕ) (at : ℕ) → Rises xs → has_role xs at ≡ true → filter (λ x. nat_lt x (at + 1)) xs ≡ filter (λ x. nat_lt x at) xs ++ at ∷ []
+below_next [] at rises h = cc
+below_next (x ∷ xs) at rises h = by_order (ltb x at) refl (eqb x at) refl (λ k. below_next xs at rises.1 k)
+  where
+    rest_above : x ≡ at → Each (λ y. at < y) xs
+    rest_above e = subst (λ v. Each (λ y. v < y) xs) e rises.0
+
+    none_below : (ys : List ℕ) (n : ℕ) → Each (λ y. n ≤ y) ys → filter (λ x. nat_lt x n) ys ≡ []
+    none_below [] n h = refl
+    none_below (y ∷ ys) n h = let ge : ltb y n ≡ false = grind (arith, nat_tests, h.0) in rw ge (none_below ys n h.1)
+
+    by_order : (s : Bool) → ltb x at ≡ s → (t : Bool) → eqb x at ≡ t → (has_role xs at ≡ true → filter (λ x. nat_lt x (at + 1)) xs ≡ filter (λ x. nat_lt x at) xs ++ at ∷ [])
+        → filter (λ x. nat_lt x (at + 1)) (x ∷ xs) ≡ filter (λ x. nat_lt x at) (x ∷ xs) ++ at ∷ []
+    by_order true a true b rest = absurd (omega (arith, lt_of a, eqb-true x at b))
+      where
+        lt_of : ltb x at ≡ true → x < at
+        lt_of a = grind (arith, nat_tests)
+    by_order true a false b rest =
+        let less : ltb x (at + 1) ≡ true = grind (arith, nat_tests) in
+        let there : has_role xs at ≡ true = rw b at h in
+        rw (less, a) (ap (λ t. x ∷ t) (rest there))
+    by_order false a true b rest =
+        let same : x ≡ at = eqb-true x at b in
+        let less : ltb x (at + 1) ≡ true = grind (arith, nat_tests) in
+        let above = rest_above same in
+        rw (
+          less,
+          a,
+          none_below xs (at + 1) (each_weaker (λ y. at < y) (λ y. at + 1 ≤ y) xs (λ y l. omega arith) above),
+          none_below xs at (each_weaker (λ y. at < y) (λ y. at ≤ y) xs (λ y l. omega arith) above),
+        )
+        (ap (λ v. v ∷ []) same)
+    by_order false a false b rest =
+        let above : at < x = grind (arith, nat_tests) in
+        let there : has_role xs at ≡ true = rw b at h in
+        absurd (false_true (sym (has_role-above at xs (each_weaker (λ y. x < y) (λ y. at < y) xs (λ y l. omega arith) rises.0)) ∙ there))
+      where
+        false_true : false ≡ true → ⊥
+        false_true e = cc
+
+pub below_same : (xs : List ℕ) (at : ℕ) → has_role xs at ≡ false → filter (λ x. nat_lt x (at + 1)) xs ≡ filter (λ x. nat_lt x at) xs
+below_same [] at h = refl
+below_same (x ∷ xs) at h = by_test (eqb x at) refl (ltb x at) refl (λ k. below_same xs at k)
+  where
+    by_test : (t : Bool) → eqb x at ≡ t → (s : Bool) → ltb x at ≡ s → (has_role xs at ≡ false → filter (λ x. nat_lt x (at + 1)) xs ≡ filter (λ x. nat_lt x at) xs)
+        → filter (λ x. nat_lt x (at + 1)) (x ∷ xs) ≡ filter (λ x. nat_lt x at) (x ∷ xs)
+    by_test true e s a rest = let no : true ≡ false = rw e at h in cc
+    by_test false e true a rest =
+        let less : ltb x (at + 1) ≡ true = grind (arith, nat_tests) in
+        let gone : has_role xs at ≡ false = rw e at h in
+        rw (less, a) (ap (λ t. x ∷ t) (rest gone))
+    by_test false e false a rest =
+        let more : ltb x (at + 1) ≡ false = grind (arith, nat_tests) in
+        let gone : has_role xs at ≡ false = rw e at h in
+        rw (more, a) (rest gone)
+
+pub below_all : (xs : List ℕ) (n : ℕ) → ((role : ℕ) → IsIn xs role → role < n) → filter (λ x. nat_lt x n) xs ≡ xs
+below_all [] n h = refl
+below_all (x ∷ xs) n h =
+    let here : x < n = h x (rw (eq-eqb x x refl) refl) in
+    let less : ltb x n ≡ true = grind (arith, nat_tests) in
+    rw less (ap (λ t. x ∷ t) (below_all xs n (λ role k. h role (or_right (eqb x role) (has_role xs role) k))))
+
+pub below_none : (xs : List ℕ) → filter (λ x. nat_lt x 0) xs ≡ []
+below_none [] = refl
+below_none (x ∷ xs) = let no : ltb x 0 ≡ false = grind (arith, nat_tests) in rw no (below_none xs)
+
+-- a rising list around one of its roles
+pub split_at : (xs : List ℕ) (at : ℕ) → Rises xs → has_role xs at ≡ true → (rest : List ℕ) × (xs ≡ filter (λ x. nat_lt x at) xs ++ at ∷ rest)
+split_at [] at rises h = cc
+split_at (x ∷ xs) at rises h = by_order (ltb x at) refl (eqb x at) refl (λ k. split_at xs at rises.1 k)
+  where
+    none_below : (ys : List ℕ) (n : ℕ) → Each (λ y. n ≤ y) ys → filter (λ x. nat_lt x n) ys ≡ []
+    none_below [] n h = refl
+    none_below (y ∷ ys) n h = let ge : ltb y n ≡ false = grind (arith, nat_tests, h.0) in rw ge (none_below ys n h.1)
+
+    by_order : (s : Bool) → ltb x at ≡ s → (t : Bool) → eqb x at ≡ t → (has_role xs at ≡ true → (rest : List ℕ) × (xs ≡ filter (λ x. nat_lt x at) xs ++ at ∷ rest))
+        → (rest : List ℕ) × (x ∷ xs ≡ filter (λ x. nat_lt x at) (x ∷ xs) ++ at ∷ rest)
+    by_order true a true b rest = absurd (omega (arith, lt_of a, eqb-true x at b))
+      where
+        lt_of : ltb x at ≡ true → x < at
+        lt_of a = grind (arith, nat_tests)
+    by_order true a false b rest =
+        let there : has_role xs at ≡ true = rw b at h in
+        let r = rest there in
+        (r.0, rw a (ap (λ t. x ∷ t) r.1))
+    by_order false a true b rest =
+        let same : x ≡ at = eqb-true x at b in
+        let above : Each (λ y. at < y) xs = subst (λ v. Each (λ y. v < y) xs) same rises.0 in
+        (xs, rw (a, none_below xs at (each_weaker (λ y. at < y) (λ y. at ≤ y) xs (λ y l. omega arith) above)) (ap (λ v. v ∷ xs) same))
+    by_order false a false b rest =
+        let above : at < x = grind (arith, nat_tests) in
+        let there : has_role xs at ≡ true = rw b at h in
+        absurd (false_true (sym (has_role-above at xs (each_weaker (λ y. x < y) (λ y. at < y) xs (λ y l. omega arith) rises.0)) ∙ there))
+      where
+        false_true : false ≡ true → ⊥
+        false_true e = cc
+
+pub weak_steps_more : (holder : Holder) (rules : Rules) (users old mid new : List (List ℕ)) (admin target : ℕ) (roles : List ℕ) (role : ℕ)
+    → WeakSteps holder rules users old admin target roles mid → WeakStep holder rules (admins_of holder users mid) mid admin target role new
+    → WeakSteps holder rules users old admin target (roles ++ role ∷ []) new
+weak_steps_more holder rules users old mid new admin target [] role steps step =
+    let P : List (List ℕ) → Type 0 = λ p. WeakStep holder rules (admins_of holder users p) p admin target role new in
+    (new, subst P steps step, refl)
+weak_steps_more holder rules users old mid new admin target (first ∷ roles) role steps step =
+    (steps.0, steps.1, weak_steps_more holder rules users steps.0 mid new admin target roles role steps.2 step)
+
+pub weaks_denied_at : (holder : Holder) (rules : Rules) (users old mid : List (List ℕ)) (admin target : ℕ) (roles : List ℕ) (role : ℕ) (rest : List ℕ) (part : Part)
+    → WeakSteps holder rules users old admin target roles mid → WeakDenied holder rules (admins_of holder users mid) mid admin target role part
+    → WeaksDenied holder rules users old admin target (roles ++ role ∷ rest) part
+weaks_denied_at holder rules users old mid admin target [] role rest part steps denied =
+    let P : List (List ℕ) → Type 0 = λ p. WeakDenied holder rules (admins_of holder users p) p admin target role part in
+    inl (subst P steps denied)
+weaks_denied_at holder rules users old mid admin target (first ∷ roles) role rest part steps denied =
+    inr (steps.0, steps.1, weaks_denied_at holder rules users steps.0 mid admin target roles role rest part steps.2 denied)
+
+pub get_set_here : {A : Type 0} (xs : List A) (i : ℕ) (y : A) → i < length xs → slice_get (slice_set xs i y) i ≡ Some y
+get_set_here [] i y l = absurd (omega arith)
+get_set_here (z ∷ zs) zero y l = refl
+get_set_here (z ∷ zs) (suc i) y l = get_set_here zs i y (omega arith)

@@ -1,0 +1,23 @@
+use Rattle.std.proofs.Common.{◌≡◌, ◌∙◌, sym, ap, inl, inr}
+use Rattle.std.specs.Prelude.{slice_get, slice_set, Some}
+use Rattle.ura_core.proofs.StepLemmas.{get_set_here, set_twice}
+use Rattle.ura_core.proofs.strong.revoke_one.Goals as goal
+
+pub returns-in-Some-against_revoke-clause-denied : goal.returns-in-Some-against_revoke-clause-denied
+returns-in-Some-against_revoke-clause-denied c = inr (
+  c.in-Some.by,
+  c.args.left.now,
+  sym c.in-Some.ensures,
+  get_set_here c.args.list.now c.args.act.now.target c.args.left.now c.requires,
+  c.in-Some-against_revoke.ensures.some,
+)
+
+pub returns-in-None-clause-granted : goal.returns-in-None-clause-granted
+returns-in-None-clause-granted c = record {
+  by = c.in-Some.by;
+  by_is = sym c.in-Some.ensures;
+  set = c.args.left.now;
+  set_is = get_set_here c.args.list.now c.args.act.now.target c.args.left.now c.requires;
+  lets = c.in-None.ensures.none;
+  gives = ap (slice_set c.args.list.now c.args.act.now.target) c.without.ensures ∙ sym (set_twice c.args.list.now c.args.act.now.target c.args.left.now _);
+}

@@ -1,0 +1,12 @@
+//! Verdicts on acts: URA97 for users, and the searches that PRA97 shares.
+#![tactic(auto)]
+
+mod decision;
+mod judging;
+mod laws;
+mod searching;
+mod strong;
+
+pub use arbac_policy::{Part, Side};
+pub use decision::{Verdict, decide, decide_on};
+pub use laws::strong_revocation_law;
