@@ -13,7 +13,7 @@ use Rattle.cond_text.specs.Machine.{State, start}
 use Rattle.cond_text.specs.Faults.{weight}
 use Rattle.cond_text.specs.Judge.{◌>>=◌, begins_with_name, advance, judge}
 use Rattle.cond_text.specs.Views.{uncons, Gives}
-use Rattle.cond_text.specs.Printing.{size}
+use Rattle.cond_text.specs.Grammar.{term_count}
 use Rattle.cond_text.specs.Reading.{StandsFor, IsFaultless, IsWithin, Reads, IsRefused}
 use Rattle.cond_text.proofs.JudgeLemmas.{told_ok, told_err, told_only}
 use Rattle.cond_text.proofs.LimitLemmas.{fine_all, fine_term}
@@ -85,7 +85,7 @@ known_of names text (Ok cond) h =
     (fine_term (length names) (placed_words names text) (term_of cond) f.0 f.1).0
 known_of names text (Err error) h = tt
 
-pub few_of : (names : List (List ℕ)) (text : List ℕ) (r : Result Cond CondError) → IsRead names text r → IfOk r (λ cond. size (term_of cond) ≤ MOST_TERMS)
+pub few_of : (names : List (List ℕ)) (text : List ℕ) (r : Result Cond CondError) → IsRead names text r → IfOk r (λ cond. term_count (term_of cond) ≤ MOST_TERMS)
 few_of names text (Ok cond) h =
     let f = told_ok (length names) (length text) (placed_words names text) (term_of cond) h in
     (fine_term (length names) (placed_words names text) (term_of cond) f.0 f.1).1

@@ -73,9 +73,11 @@ IsNoRole count Stray = ⊥
 -- or it can, passes none, and is an unknown name
 abbrev pub IsFaultAt : ℕ → List Word → Placed → List Placed → CondError → Type 0
 IsFaultAt count before x rest (Unexpected place) = (place ≡ x.place) × (¬ CanBegin (before ++ (x.word ∷ [])))
-IsFaultAt count before x rest (TooDeep place) = (place ≡ x.place) × CanBegin (before ++ (x.word ∷ [])) × IsTooDeep before x.word rest
+IsFaultAt count before x rest (TooDeep place) =
+    (place ≡ x.place) × CanBegin (before ++ (x.word ∷ [])) × IsTooDeep before x.word rest
 IsFaultAt count before x rest (UnknownRole place) =
-    (place ≡ x.place) × CanBegin (before ++ (x.word ∷ [])) × (¬ IsTooDeep before x.word rest) × IsNoRole count x.word
+    (place ≡ x.place) × CanBegin (before ++ (x.word ∷ []))
+    × (¬ IsTooDeep before x.word rest) × IsNoRole count x.word
 IsFaultAt count before x rest Memory = ⊥
 
 -- behind these words the word has no fault
@@ -94,7 +96,8 @@ AreFine count before (x ∷ rest) = IsFine count before x rest × AreFine count 
 abbrev pub IsFirstFault : ℕ → ℕ → List Word → List Placed → CondError → Type 0
 IsFirstFault count size before [] fault = (fault ≡ Unexpected size) × ((term : Term) → ¬ Stands before term)
 IsFirstFault count size before (x ∷ rest) fault =
-    IsFaultAt count before x rest fault ⊎ (IsFine count before x rest × IsFirstFault count size (before ++ (x.word ∷ [])) rest fault)
+    IsFaultAt count before x rest fault
+    ⊎ (IsFine count before x rest × IsFirstFault count size (before ++ (x.word ∷ [])) rest fault)
 
 -- never more than the limit are open at once, where so many are open before the words
 abbrev pub IsShallow : ℕ → List Word → Type 0

@@ -28,9 +28,13 @@ abbrev pub Reads : Result Cond CondError → Term → Type 0
 Reads (Ok cond) term = term_of cond ≡ term
 Reads (Err error) term = error ≡ Memory
 
--- the error is the text's first fault, or want of memory
+-- the fault is the first of the text
+abbrev pub IsFirstOf : List (List ℕ) → List ℕ → CondError → Type 0
+IsFirstOf names text fault = IsFirstFault (length names) (length text) [] (placed_words names text) fault
+
+-- the error is the first fault of the text, or want of memory
 abbrev pub IsRefused : List (List ℕ) → List ℕ → CondError → Type 0
-IsRefused names text (Unexpected place) = IsFirstFault (length names) (length text) [] (placed_words names text) (Unexpected place)
-IsRefused names text (UnknownRole place) = IsFirstFault (length names) (length text) [] (placed_words names text) (UnknownRole place)
-IsRefused names text (TooDeep place) = IsFirstFault (length names) (length text) [] (placed_words names text) (TooDeep place)
+IsRefused names text (Unexpected place) = IsFirstOf names text (Unexpected place)
+IsRefused names text (UnknownRole place) = IsFirstOf names text (UnknownRole place)
+IsRefused names text (TooDeep place) = IsFirstOf names text (TooDeep place)
 IsRefused names text Memory = Unit {0}
