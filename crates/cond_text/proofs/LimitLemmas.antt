@@ -1,5 +1,5 @@
 -- Words within the limits have no fault, and a condition of few terms is printed within them.
-use Rattle.std.proofs.Common.{ℕ, ◌≡◌, ◌+◌, ◌-◌, ◌<◌, ◌≤◌, ap, subst, sym, refl, arith, max, Bool, true, false, List, [], ◌∷◌, ◌++◌, append_assoc}
+use Rattle.std.proofs.Common.{ℕ, ◌≡◌, ◌+◌, ◌-◌, ◌<◌, ◌≤◌, ap, subst, sym, arith, max, Bool, true, false, List, [], ◌∷◌, ◌++◌, append_assoc}
 use Rattle.cond_text.specs.declared.word.Placed.{Placed}
 use Rattle.cond_text.specs.declared.word.Word.{Word}
 use Rattle.cond_text.specs.declared.word.Word.TheVariants.{Any, Name, Not, And, Or, Open, Close, Stray}

@@ -1,12 +1,11 @@
 -- What the printed text is.
-use Rattle.std.proofs.Common.{ℕ, ◌≡◌, ◌≤◌, ◌∙◌, ap, subst, sym, refl, arith, List, [], ◌∷◌, ◌++◌, length}
+use Rattle.std.proofs.Common.{ℕ, ◌≡◌, ◌≤◌, ◌∙◌, ap, subst, sym, arith, List, length}
 use Rattle.role_order.specs.Refusals.{AreNames}
 use Rattle.arbac_policy.specs.Truth.{Term, IsKnown}
 use Rattle.cond_text.specs.declared.TheConstants.{MOST_TERMS}
-use Rattle.cond_text.specs.declared.level.Level.TheVariants.{Condition}
 use Rattle.cond_text.specs.Words.{words, placed_words}
 use Rattle.cond_text.specs.Grammar.{term_count}
-use Rattle.cond_text.specs.Printing.{phrase_at, text_of, parentheses}
+use Rattle.cond_text.specs.Printing.{text_of, parentheses}
 use Rattle.cond_text.specs.Reading.{StandsFor, IsFaultless}
 use Rattle.cond_text.proofs.FewestLemmas.{opens, fewest_words}
 use Rattle.cond_text.proofs.LimitLemmas.{printed_fine}

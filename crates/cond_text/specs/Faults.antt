@@ -7,7 +7,6 @@ use Rattle.cond_text.specs.declared.word.Placed.{Placed}
 use Rattle.cond_text.specs.declared.cond_error.CondError.{CondError}
 use Rattle.cond_text.specs.declared.cond_error.CondError.TheVariants.{Unexpected, UnknownRole, TooDeep, Memory}
 use Rattle.cond_text.specs.declared.TheConstants.{MOST_TERMS, MOST_OPEN}
-use Rattle.cond_text.specs.Words.{plain}
 use Rattle.cond_text.specs.Grammar.{Stands, CanBegin}
 
 -- one for the word that ends a term: each term has one "any" or one name

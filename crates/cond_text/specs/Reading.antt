@@ -1,5 +1,5 @@
 -- What a text of a condition stands for, and how reading it answers.
-use Rattle.std.specs.Prelude.{ℕ, ◌≡◌, ◌≤◌, List, [], length, Result, Ok, Err}
+use Rattle.std.specs.Prelude.{ℕ, ◌≡◌, ◌≤◌, ◌⊎◌, List, [], length, Result, Ok, Err}
 use Rattle.arbac_policy.specs.declared.cond.Cond.{Cond}
 use Rattle.arbac_policy.specs.Truth.{Term, term_of}
 use Rattle.cond_text.specs.declared.cond_error.CondError.{CondError}
@@ -38,3 +38,8 @@ IsRefused names text (Unexpected place) = IsFirstOf names text (Unexpected place
 IsRefused names text (UnknownRole place) = IsFirstOf names text (UnknownRole place)
 IsRefused names text (TooDeep place) = IsFirstOf names text (TooDeep place)
 IsRefused names text Memory = Unit {0}
+
+-- the error is the fault, unless memory ran out
+abbrev pub Refuses : Result Cond CondError → CondError → Type 0
+Refuses (Ok cond) fault = ⊥
+Refuses (Err error) fault = (error ≡ fault) ⊎ (error ≡ Memory)

@@ -1,5 +1,5 @@
 -- What the code's states are seen as, and what a private function gives.
-use Rattle.std.specs.Prelude.{ℕ, ◌≡◌, List, [], ◌∷◌, map, reverse, option_map, Option, Some, None, Result, Ok, Err}
+use Rattle.std.specs.Prelude.{◌≡◌, List, [], ◌∷◌, map, reverse, option_map, Option, Some, None, Result, Ok, Err}
 use Rattle.arbac_policy.specs.Truth.{term_of}
 use Rattle.cond_text.specs.declared.word.Placed.{Placed}
 use Rattle.cond_text.specs.declared.cond_error.CondError.{CondError}

@@ -8,7 +8,7 @@ ghost use Rattle.cond_text.specs.Faults.{weight as term_weight};
 ghost use Rattle.cond_text.specs.Judge.{is_name as is_word_name, begins_with_name as name_first, open_in as open_now, limit, advance as advanced, ending, judge as judged};
 ghost use Rattle.cond_text.specs.Views.{state_of, uncons, Gives};
 ghost use Rattle.cond_text.specs.Grammar.{term_count};
-ghost use Rattle.cond_text.specs.Reading.{StandsFor, IsFaultless, IsWithin, Reads, IsRefused};
+ghost use Rattle.cond_text.specs.Reading.{StandsFor, IsFaultless, IsWithin, Reads, IsRefused, IsFirstOf, Refuses};
 
 use crate::cond_error::CondError;
 use crate::reader::{Frame, State, or_of, step};
@@ -198,8 +198,9 @@ fn read(alloc: Global, order: &Order, text: &str) -> Result<Cond, CondError>
 
 /// The condition that the text stands for under the order's names, or its first fault.
 ///
-/// Words are any, not, and, or, names and parentheses; spaces and tabs stand between them. `and`
-/// binds tighter than `or`, both group to the left, and `not` stands before a name alone.
+/// Its words are `any`, `not`, `and`, `or`, names and parentheses, with spaces and tabs between them
+/// where they like. `and` binds tighter than `or`, both group to the left, and `not` stands before a
+/// name alone (this project). At most `MOST_TERMS` terms and `MOST_OPEN` open parentheses are read.
 pub fn parse_cond(alloc: Global, order: &Order, text: &str) -> Result<Cond, CondError>
     requires { length text.now < 2 ^ 32 }
     // What is read is what the text stands for, and no word has a fault.
@@ -216,6 +217,8 @@ pub fn parse_cond(alloc: Global, order: &Order, text: &str) -> Result<Cond, Cond
         → IsWithin order.now.names text.now → Reads result term }
     // An error is the first fault.
     ensures first { IfErr result (IsRefused order.now.names text.now) }
+    // The first fault of a text, where it has one, is the error.
+    ensures told { (fault : CondError) → IsFirstOf order.now.names text.now fault → Refuses result fault }
     // A text stands for one condition at most.
     ensures one { (left right : Term) → StandsFor order.now.names text.now left
         → StandsFor order.now.names text.now right → left ≡ right }
