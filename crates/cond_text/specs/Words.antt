@@ -9,7 +9,8 @@ use Rattle.cond_text.specs.declared.word.Word.{Word}
 use Rattle.cond_text.specs.declared.word.Word.TheVariants.{Any, Name, Not, And, Or, Open, Close, Stray}
 use Rattle.cond_text.specs.declared.word.Placed.{Placed}
 
--- the role of the name, or the number of roles where it is no role's
+-- the role of the name, or the number of roles where it is no role's: that number is no role,
+-- and a word of it is at fault
 abbrev pub role_or_count : List (List ℕ) → List ℕ → ℕ
 role_or_count names name = unwrap_or (place_of names name) (length names)
 

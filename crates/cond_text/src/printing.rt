@@ -100,7 +100,7 @@ fn write_at(order: &Order, out: &mut String, level: Level, cond: &Cond) -> Resul
 
 /// The text with the fewest parentheses that stands for the condition.
 ///
-/// It is as deep in calls as the condition is in parts.
+/// Its calls nest as deep as the condition does.
 pub fn print_cond(alloc: Global, order: &Order, cond: &Cond) -> Result<String, AllocError>
     requires { IsKnown (length order.now.names) (term_of cond.now) }
     ensures stands { IfOk result (λ text. StandsFor order.now.names (string_bytes text)
