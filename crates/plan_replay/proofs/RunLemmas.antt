@@ -1,5 +1,5 @@
 -- Runs, act by act.
-use Rattle.std.proofs.Common.{ℕ, ◌≡◌, ◌+◌, ◌∙◌, List, [], ◌∷◌, ◌++◌, take, refl, sym, subst, ap, zero, suc, Some}
+use Rattle.std.proofs.Common.{ℕ, ◌≡◌, ◌+◌, ◌∙◌, List, [], ◌∷◌, ◌++◌, take, length, refl, sym, subst, ap, zero, suc, Some}
 use Rattle.std.specs.Prelude.{slice_get, slice_set}
 use Rattle.role_order.specs.Roles.{with_role}
 use Rattle.role_order.proofs.ListLemmas.{take_one_more}
@@ -54,3 +54,8 @@ no_run rules old mid (first ∷ acts) zero act at run none end whole =
 no_run rules old mid (first ∷ acts) (suc place) act at run none end whole =
     let same = step_one rules old first whole.0 run.0 whole.1 run.1 in
     no_run rules run.0 mid acts place act at run.2 none end (subst (λ m. Run rules m acts end) same whole.2)
+
+pub length-slice_set : {A : Type 0} (xs : List A) (i : ℕ) (x : A) → length (slice_set xs i x) ≡ length xs
+length-slice_set [] i x = refl
+length-slice_set (y ∷ ys) zero x = refl
+length-slice_set (y ∷ ys) (suc i) x = ap suc (length-slice_set ys i x)

@@ -27,6 +27,7 @@ pub fn replay(
 ) -> Result<Replayed, AllocError>
     requires { length acts.now < 2 ^ 32 }
     ensures ended { IfOk result (λ replayed. IfEnded replayed (Run policy.now start.now acts.now)) }
+    ensures users { IfOk result (λ replayed. IfEnded replayed (λ sets. length sets ≡ length start.now)) }
     ensures stopped { IfOk result (λ replayed. IfStopped replayed (StopsAt policy.now start.now acts.now)) }
     ensures no_run { IfOk result (λ replayed. IfStopped replayed (λ place part. (end : List (List ℕ)) → ¬ Run policy.now start.now acts.now end)) }
 {

@@ -5,8 +5,8 @@ use Rattle.std.specs.List.{list_any, list_all}
 use Rattle.std.proofs.lemmas.Bool.{ne_eqb, eq-eqb, false≢true}
 use Rattle.std.proofs.lemmas.Bool.Decides.{nat_tests}
 use Rattle.role_order.specs.Lists.{Each}
-use Rattle.role_order.specs.Roles.{has_role, with_role, without_role, less_roles, is_within, have_common, join_roles, IsIn, Rises, IsRoleSet}
-use Rattle.role_order.specs.Places.{places, row, has_role-places_below}
+use Rattle.role_order.specs.Roles.{has_role, with_role, without_role, join_roles, IsIn, Rises, IsRoleSet}
+use Rattle.role_order.specs.Places.{places, has_role-places_below}
 
 pub has_role-places : (at : ℕ) (bs : List Bool) (k : ℕ) → has_role (places at bs) (at + k) ≡ get_or bs k false
 unfolding places
@@ -208,18 +208,18 @@ places-joined as' bs cs h e each =
     let same : cs ≡ either_row as' bs = same_row cs (either_row as' bs) (e ∙ sym (length-either_row as' bs h)) (λ k l. each k l ∙ sym (get_or-either_row as' bs k h)) in
     rw same (places-either_row 0 as' bs h)
 
--- the places of a row rise, and are those of the row
-places_above : (low at : ℕ) (bs : List Bool) → low < at → Each (λ y. low < y) (places at bs)
+places_from : (low at : ℕ) (bs : List Bool) → low < at → Each (λ y. low < y) (places at bs)
 unfolding places
-places_above low at [] h = tt
-places_above low at (false ∷ bs) h = places_above low (at + 1) bs (omega arith)
-places_above low at (true ∷ bs) h = (h, places_above low (at + 1) bs (omega arith))
+places_from low at [] l = tt
+places_from low at (false ∷ bs) l = places_from low (at + 1) bs (omega arith)
+places_from low at (true ∷ bs) l = (l, places_from low (at + 1) bs (omega arith))
 
+-- the places rise
 pub rises-places : (at : ℕ) (bs : List Bool) → Rises (places at bs)
 unfolding places
 rises-places at [] = tt
 rises-places at (false ∷ bs) = rises-places (at + 1) bs
-rises-places at (true ∷ bs) = (places_above at (at + 1) bs (omega arith), rises-places (at + 1) bs)
+rises-places at (true ∷ bs) = (places_from at (at + 1) bs (omega arith), rises-places (at + 1) bs)
 
 below-places : (bs : List Bool) (role : ℕ) → IsIn (places 0 bs) role → role < length bs
 below-places bs role h = by_length (ltb role (length bs)) refl

@@ -240,6 +240,7 @@ fn a_set_has_the_roles_that_it_was_given(rt: HostRuntime) {
         assert_eq!(rt; ends.has(role), in_ends, "at {role}");
         assert_eq!(rt; first.has(role), in_first, "at {role}");
         assert_eq!(rt; first.join(&ends).has(role), in_ends, "at {role}");
+        assert_eq!(rt; first.common(&ends).has(role), in_first, "at {role}");
         assert_eq!(rt;
             ends.less(&first).has(role),
             in_ends && !in_first,

@@ -1,7 +1,7 @@
-use Rattle.std.proofs.Common.{ℕ, ◌≡◌, ◌∙◌, ◌<◌, ◌+◌, sym, ap, subst, true, false, Some, take, length, arith, List, ◌++◌, ◌∷◌, [], slice_index_or}
+use Rattle.std.proofs.Common.{ℕ, ◌≡◌, ◌∙◌, ◌<◌, sym, ap, subst, Some, take, length, arith, slice_index_or}
 use Rattle.std.specs.Prelude.{slice_get}
 use Rattle.std.proofs.lemmas.Bool.{false≢true}
-use Rattle.role_order.specs.Graph.{Leads, AreAcyclic, IsEdge}
+use Rattle.role_order.specs.Graph.{IsEdge}
 use Rattle.role_order.specs.Closures.{AreAbove, raised}
 use Rattle.role_order.proofs.ListLemmas.{get_at, each_at, take_one_more}
 use Rattle.role_order.proofs.ClosureLemmas.{raised_above, acyclic_more}

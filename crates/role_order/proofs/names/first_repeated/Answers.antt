@@ -1,5 +1,4 @@
-use Rattle.std.proofs.Common.{ℕ, ◌≡◌, ◌<◌, ◌≤◌, ◌+◌, ◌∙◌, List, length, sym, Some, ap, arith, subst, take}
-use Rattle.std.specs.Prelude.{slice_get}
+use Rattle.std.proofs.Common.{◌∙◌, sym, Some, ap, arith, subst}
 use Rattle.role_order.specs.Names.{texts, place_of, AreDifferent}
 use Rattle.role_order.proofs.ListLemmas.{take_all}
 use Rattle.role_order.proofs.NameLemmas.{slice_get_texts, texts-take, length_texts, different_more}

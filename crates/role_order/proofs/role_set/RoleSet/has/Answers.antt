@@ -1,4 +1,4 @@
-use Rattle.std.proofs.Common.{◌≡◌, ◌+◌, ◌<◌, ◌≤◌, length, true, false, ltb, get_or, arith, sym, ◌∙◌}
+use Rattle.std.proofs.Common.{◌≡◌, false, ltb, get_or, arith, sym, ◌∙◌}
 use Rattle.std.proofs.lemmas.Bool.Decides.{nat_tests}
 use Rattle.role_order.proofs.PlacesLemmas.{has_role-places_0, get_or_past, role_set_of}
 use Rattle.role_order.proofs.role_set.RoleSet.has.Goals as goal
