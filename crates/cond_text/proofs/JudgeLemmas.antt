@@ -213,13 +213,13 @@ judge_err count size (x ∷ xs) before s terms f b h =
     ]
 
 -- where no word is at fault, the end alone can be
-clash_at : (count : ℕ) (before : List Word) (x : Placed) (rest : List Placed) (f : CondError) → IsFaultAt count before x rest f → IsFine count before x rest → ⊥
+pub clash_at : (count : ℕ) (before : List Word) (x : Placed) (rest : List Placed) (f : CondError) → IsFaultAt count before x rest f → IsFine count before x rest → ⊥
 clash_at count before x rest (Unexpected place) h k = h.1 k.expected
 clash_at count before x rest (TooDeep place) h k = k.shallow h.2
 clash_at count before x rest (UnknownRole place) h k = k.known h.3
 clash_at count before x rest Memory h k = h
 
-clash : (count size : ℕ) (ws : List Placed) (before : List Word) (f : CondError) (t : Term) → IsFirstFault count size before ws f → AreFine count before ws → Stands (before ++ plain ws) t → ⊥
+pub clash : (count size : ℕ) (ws : List Placed) (before : List Word) (f : CondError) (t : Term) → IsFirstFault count size before ws f → AreFine count before ws → Stands (before ++ plain ws) t → ⊥
 clash count size [] before f t h k st = h.1 t (subst (λ (ws : List Word). Stands ws t) (append-nil before) st)
 clash count size (x ∷ xs) before f t h k st = elim h [
   | inl a ↦ clash_at count before x xs f a k.0

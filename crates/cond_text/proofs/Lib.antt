@@ -2,6 +2,7 @@ pub mod CompleteLemmas
 pub mod SoundLemmas
 pub mod PrefixLemmas
 pub mod JudgeLemmas
+pub mod FaultLemmas
 pub mod TermLemmas
 pub mod FewestLemmas
 pub mod LimitLemmas

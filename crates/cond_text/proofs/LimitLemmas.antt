@@ -1,16 +1,16 @@
 -- Words within the limits have no fault, and a condition of few terms is printed within them.
-use Rattle.std.proofs.Common.{ℕ, ◌≡◌, ◌+◌, ◌-◌, ◌<◌, ◌≤◌, ap, subst, sym, refl, arith, max, Bool, true, false, List, [], ◌∷◌, ◌++◌, append_assoc}
+use Rattle.std.proofs.Common.{ℕ, ◌≡◌, ◌+◌, ◌-◌, ◌<◌, ◌≤◌, ap, subst, sym, arith, max, Bool, true, false, List, [], ◌∷◌, ◌++◌, append_assoc}
 use Rattle.cond_text.specs.declared.word.Placed.{Placed}
 use Rattle.cond_text.specs.declared.word.Word.{Word}
 use Rattle.cond_text.specs.declared.word.Word.TheVariants.{Any, Name, Not, And, Or, Open, Close, Stray}
 use Rattle.arbac_policy.specs.Truth.{Term, any, has, lacks, both, either, IsKnown}
-use Rattle.cond_text.specs.Grammar.{Phrase, an_any, a_name, a_not, enclosed, an_and, an_or, takes_and, takes_or, spell, value, Stands}
+use Rattle.cond_text.specs.Grammar.{Phrase, an_any, a_name, a_not, enclosed, an_and, an_or, takes_and, takes_or, spell, value, term_count, Stands}
 use Rattle.cond_text.specs.declared.TheConstants.{MOST_TERMS, MOST_OPEN}
 use Rattle.cond_text.specs.declared.level.Level.{Level}
 use Rattle.cond_text.specs.declared.level.Level.TheVariants.{Operand, Conjunction, Condition}
 use Rattle.cond_text.specs.Words.{plain}
 use Rattle.cond_text.specs.Faults.{weight, terms_in, open_behind, open_after, BeginsWithName, IsTooDeep, AreFine, IsShallow, AreKnown}
-use Rattle.cond_text.specs.Printing.{free_if, phrase_at, size}
+use Rattle.cond_text.specs.Printing.{free_if, phrase_at}
 use Rattle.cond_text.proofs.FewestLemmas.{phrase_value}
 use Rattle.cond_text.proofs.JudgeLemmas.{terms_more, open_more}
 
@@ -68,7 +68,7 @@ known_spell count (enclosed p) rest h k = ((λ e. e), known_spell count p (Close
 known_spell count (an_and p q) rest h k = known_spell count p (And ∷ spell q rest) h.0 ((λ e. e), known_spell count q rest h.1 k)
 known_spell count (an_or p q) rest h k = known_spell count p (Or ∷ spell q rest) h.0 ((λ e. e), known_spell count q rest h.1 k)
 
-pub terms_spell : (p : Phrase) (rest : List Word) → terms_in (spell p rest) ≡ size (value p) + terms_in rest
+pub terms_spell : (p : Phrase) (rest : List Word) → terms_in (spell p rest) ≡ term_count (value p) + terms_in rest
 terms_spell an_any rest = omega arith
 terms_spell (a_name role) rest = omega arith
 terms_spell (a_not role) rest = omega arith
@@ -82,24 +82,24 @@ free_depth true p = omega arith
 free_depth false p = omega arith
 
 -- fewer parentheses are open at once than the term has parts
-depth_size : (level : Level) (t : Term) → depth (phrase_at level t) < size t
+depth_below : (level : Level) (t : Term) → depth (phrase_at level t) < term_count t
 unfolding depth
-depth_size level any = omega arith
-depth_size level (has role) = omega arith
-depth_size level (lacks role) = omega arith
-depth_size level (both t u) = omega (arith, free_depth (takes_and level) (an_and (phrase_at Conjunction t) (phrase_at Operand u)), depth_size Conjunction t, depth_size Operand u)
-depth_size level (either t u) = omega (arith, free_depth (takes_or level) (an_or (phrase_at Condition t) (phrase_at Conjunction u)), depth_size Condition t, depth_size Conjunction u)
+depth_below level any = omega arith
+depth_below level (has role) = omega arith
+depth_below level (lacks role) = omega arith
+depth_below level (both t u) = omega (arith, free_depth (takes_and level) (an_and (phrase_at Conjunction t) (phrase_at Operand u)), depth_below Conjunction t, depth_below Operand u)
+depth_below level (either t u) = omega (arith, free_depth (takes_or level) (an_or (phrase_at Condition t) (phrase_at Conjunction u)), depth_below Condition t, depth_below Conjunction u)
 
 -- the words of the printed phrase have no fault
-pub printed_fine : (count : ℕ) (ws : List Placed) (t : Term) → plain ws ≡ spell (phrase_at Condition t) [] → Stands (plain ws) t → size t ≤ MOST_TERMS → IsKnown count t → AreFine count [] ws
+pub printed_fine : (count : ℕ) (ws : List Placed) (t : Term) → plain ws ≡ spell (phrase_at Condition t) [] → Stands (plain ws) t → term_count t ≤ MOST_TERMS → IsKnown count t → AreFine count [] ws
 printed_fine count ws t e st few roles =
     let v = phrase_value Condition t in
     let P : Term → Type 0 = λ u. IsKnown count u in
     let Q : List Word → Type 0 = λ w. IsShallow 0 w in
     let R : List Word → Type 0 = λ w. AreKnown count w in
     fine_all count ws [] t st
-    (omega (arith, ap terms_in e, terms_spell (phrase_at Condition t) [], ap size v))
-    (subst Q (sym e) (shallow_spell (phrase_at Condition t) 0 [] (omega (arith, depth_size Condition t)) tt))
+    (omega (arith, ap terms_in e, terms_spell (phrase_at Condition t) [], ap term_count v))
+    (subst Q (sym e) (shallow_spell (phrase_at Condition t) 0 [] (omega (arith, depth_below Condition t)) tt))
     (subst R (sym e) (known_spell count (phrase_at Condition t) [] (subst P (sym v) roles) tt))
 
 -- no more terms than the limit are without a fault
@@ -139,10 +139,10 @@ spelled_known count (an_and p q) rest k = let l = spelled_known count p (And ∷
 spelled_known count (an_or p q) rest k = let l = spelled_known count p (Or ∷ spell q rest) k in let r = spelled_known count q rest l.1.1 in ((l.0, r.0), r.1)
 
 -- what words without a fault stand for has few terms, each of a role
-pub fine_term : (count : ℕ) (ws : List Placed) (t : Term) → Stands (plain ws) t → AreFine count [] ws → IsKnown count t × (size t ≤ MOST_TERMS)
+pub fine_term : (count : ℕ) (ws : List Placed) (t : Term) → Stands (plain ws) t → AreFine count [] ws → IsKnown count t × (term_count t ≤ MOST_TERMS)
 fine_term count ws t st fine =
     let P : List Word → Type 0 = λ w. AreKnown count w in
     let Q : Term → Type 0 = λ u. IsKnown count u in
     let known = spelled_known count st.phrase [] (subst P (sym st.spelled) (known_words count [] ws fine)) in
     let few = few_words count [] ws (omega arith) fine in
-    (subst Q st.valued known.0, omega (arith, few, ap terms_in st.spelled, terms_spell st.phrase [], ap size st.valued))
+    (subst Q st.valued known.0, omega (arith, few, ap terms_in st.spelled, terms_spell st.phrase [], ap term_count st.valued))

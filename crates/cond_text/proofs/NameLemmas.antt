@@ -1,6 +1,6 @@
 -- The names of an order are each a word of their own role.
-use Rattle.std.proofs.Common.{ℕ, zero, suc, ◌≡◌, ◌≢◌, ◌+◌, ◌<◌, ◌∙◌, ap, subst, sym, refl, arith, Bool, true, false, cond, ◌&&◌, ◌||◌, nat_le, List, [], ◌∷◌, length, get_or, Option, Some, None}
-use Rattle.std.specs.Prelude.{not, nat_lt, codes, slice_get}
+use Rattle.std.proofs.Common.{ℕ, zero, suc, ◌≡◌, ◌≢◌, ◌<◌, ◌∙◌, ap, sym, refl, arith, Bool, true, false, cond, ◌&&◌, ◌||◌, nat_le, List, [], ◌∷◌, length, get_or, Some, None}
+use Rattle.std.specs.Prelude.{not, nat_lt, codes}
 use Rattle.std.specs.List.{list_all, prefix_len}
 use Rattle.std.specs.Option.{unwrap_or}
 use Rattle.std.specs.Str.{bytes_eq}
@@ -12,7 +12,7 @@ use Rattle.role_order.specs.Lists.{Each}
 use Rattle.role_order.specs.Names.{is_name_byte, is_name, is_reserved, is_role_name, place_of, AreDifferent}
 use Rattle.role_order.specs.Refusals.{AreNames}
 use Rattle.cond_text.specs.declared.word.Word.TheVariants.{Name}
-use Rattle.cond_text.specs.Words.{role_or_count, word_of}
+use Rattle.cond_text.specs.Words.{word_of}
 
 -- the name is a word of name bytes, which stands for its role
 pub record IsProper (names : List (List ℕ)) (role : ℕ) : Type 0 where

@@ -1,5 +1,5 @@
 -- What the loop over the words keeps, and what its end says of the text.
-use Rattle.std.proofs.Common.{◌≡◌, ℕ, ◌≤◌, ◌+◌, ap, subst, sym, refl, arith, List, [], ◌∷◌, length, Some, Result, Ok, Err, IfOk, IfErr}
+use Rattle.std.proofs.Common.{◌≡◌, ℕ, ◌≤◌, ◌+◌, ap, subst, sym, refl, arith, List, [], ◌∷◌, length, Some, Result, Ok, Err, IfOk, IfErr, inl, inr}
 use Rattle.arbac_policy.specs.declared.cond.Cond.{Cond}
 use Rattle.arbac_policy.specs.Truth.{Term, term_of, IsKnown}
 use Rattle.cond_text.specs.declared.word.Word.{Word}
@@ -8,14 +8,15 @@ use Rattle.cond_text.specs.declared.word.Placed.{Placed}
 use Rattle.cond_text.specs.declared.cond_error.CondError.{CondError}
 use Rattle.cond_text.specs.declared.cond_error.CondError.TheVariants.{Unexpected, UnknownRole, TooDeep, Memory}
 use Rattle.cond_text.specs.declared.TheConstants.{MOST_TERMS}
-use Rattle.cond_text.specs.Words.{placed_words, words}
+use Rattle.cond_text.specs.Words.{placed_words}
 use Rattle.cond_text.specs.Machine.{State, start}
 use Rattle.cond_text.specs.Faults.{weight}
 use Rattle.cond_text.specs.Judge.{◌>>=◌, begins_with_name, advance, judge}
 use Rattle.cond_text.specs.Views.{uncons, Gives}
-use Rattle.cond_text.specs.Printing.{size}
-use Rattle.cond_text.specs.Reading.{StandsFor, IsFaultless, IsWithin, Reads, IsRefused}
-use Rattle.cond_text.proofs.JudgeLemmas.{told_ok, told_err, told_only}
+use Rattle.cond_text.specs.Grammar.{term_count}
+use Rattle.cond_text.specs.Reading.{StandsFor, IsFaultless, IsWithin, Reads, IsRefused, IsFirstOf, Refuses}
+use Rattle.cond_text.proofs.JudgeLemmas.{told_ok, told_err, told_only, clash}
+use Rattle.cond_text.proofs.FaultLemmas.{one_fault}
 use Rattle.cond_text.proofs.LimitLemmas.{fine_all, fine_term}
 
 pub judge_step : (count size : ℕ) (s next : State) (terms : ℕ) (rest : List Placed) (p : Placed × List Placed) → Some p ≡ uncons rest
@@ -85,8 +86,20 @@ known_of names text (Ok cond) h =
     (fine_term (length names) (placed_words names text) (term_of cond) f.0 f.1).0
 known_of names text (Err error) h = tt
 
-pub few_of : (names : List (List ℕ)) (text : List ℕ) (r : Result Cond CondError) → IsRead names text r → IfOk r (λ cond. size (term_of cond) ≤ MOST_TERMS)
+pub few_of : (names : List (List ℕ)) (text : List ℕ) (r : Result Cond CondError) → IsRead names text r → IfOk r (λ cond. term_count (term_of cond) ≤ MOST_TERMS)
 few_of names text (Ok cond) h =
     let f = told_ok (length names) (length text) (placed_words names text) (term_of cond) h in
     (fine_term (length names) (placed_words names text) (term_of cond) f.0 f.1).1
 few_of names text (Err error) h = tt
+
+pub told_of : (names : List (List ℕ)) (text : List ℕ) (r : Result Cond CondError) → IsRead names text r → (fault : CondError) → IsFirstOf names text fault → Refuses r fault
+told_of names text (Ok cond) h fault first =
+    let f = told_ok (length names) (length text) (placed_words names text) (term_of cond) h in
+    clash (length names) (length text) (placed_words names text) [] fault (term_of cond) first f.1 f.0
+told_of names text (Err (Unexpected place)) h fault first =
+    inl (one_fault (length names) (length text) [] (placed_words names text) (Unexpected place) fault (first_of names text (Err (Unexpected place)) h) first)
+told_of names text (Err (UnknownRole place)) h fault first =
+    inl (one_fault (length names) (length text) [] (placed_words names text) (UnknownRole place) fault (first_of names text (Err (UnknownRole place)) h) first)
+told_of names text (Err (TooDeep place)) h fault first =
+    inl (one_fault (length names) (length text) [] (placed_words names text) (TooDeep place) fault (first_of names text (Err (TooDeep place)) h) first)
+told_of names text (Err Memory) h fault first = inr refl

@@ -1,5 +1,5 @@
 -- A step of the loop over a text's bytes.
-use Rattle.std.proofs.Common.{ℕ, ◌≡◌, ◌+◌, ◌-◌, ◌<◌, ◌≤◌, ◌∙◌, ap, sym, refl, Bool, List, [], ◌∷◌, ◌++◌, append_assoc, append-nil, length, get_or, take, drop, length-drop}
+use Rattle.std.proofs.Common.{ℕ, ◌≡◌, ◌+◌, ◌-◌, ◌<◌, ◌∙◌, ap, sym, Bool, List, [], ◌∷◌, ◌++◌, append_assoc, append-nil, length, get_or, take, drop, length-drop}
 use Rattle.std.proofs.Math.Seq.{take-length}
 use Rattle.std.proofs.lemmas.List.{drop_more}
 use Rattle.role_order.specs.Names.{is_name_byte}

@@ -7,7 +7,6 @@ use Rattle.cond_text.specs.declared.word.Placed.{Placed}
 use Rattle.cond_text.specs.declared.cond_error.CondError.{CondError}
 use Rattle.cond_text.specs.declared.cond_error.CondError.TheVariants.{Unexpected, UnknownRole, TooDeep, Memory}
 use Rattle.cond_text.specs.declared.TheConstants.{MOST_TERMS, MOST_OPEN}
-use Rattle.cond_text.specs.Words.{plain}
 use Rattle.cond_text.specs.Grammar.{Stands, CanBegin}
 
 -- one for the word that ends a term: each term has one "any" or one name
@@ -73,9 +72,11 @@ IsNoRole count Stray = ⊥
 -- or it can, passes none, and is an unknown name
 abbrev pub IsFaultAt : ℕ → List Word → Placed → List Placed → CondError → Type 0
 IsFaultAt count before x rest (Unexpected place) = (place ≡ x.place) × (¬ CanBegin (before ++ (x.word ∷ [])))
-IsFaultAt count before x rest (TooDeep place) = (place ≡ x.place) × CanBegin (before ++ (x.word ∷ [])) × IsTooDeep before x.word rest
+IsFaultAt count before x rest (TooDeep place) =
+    (place ≡ x.place) × CanBegin (before ++ (x.word ∷ [])) × IsTooDeep before x.word rest
 IsFaultAt count before x rest (UnknownRole place) =
-    (place ≡ x.place) × CanBegin (before ++ (x.word ∷ [])) × (¬ IsTooDeep before x.word rest) × IsNoRole count x.word
+    (place ≡ x.place) × CanBegin (before ++ (x.word ∷ []))
+    × (¬ IsTooDeep before x.word rest) × IsNoRole count x.word
 IsFaultAt count before x rest Memory = ⊥
 
 -- behind these words the word has no fault
@@ -94,7 +95,8 @@ AreFine count before (x ∷ rest) = IsFine count before x rest × AreFine count 
 abbrev pub IsFirstFault : ℕ → ℕ → List Word → List Placed → CondError → Type 0
 IsFirstFault count size before [] fault = (fault ≡ Unexpected size) × ((term : Term) → ¬ Stands before term)
 IsFirstFault count size before (x ∷ rest) fault =
-    IsFaultAt count before x rest fault ⊎ (IsFine count before x rest × IsFirstFault count size (before ++ (x.word ∷ [])) rest fault)
+    IsFaultAt count before x rest fault
+    ⊎ (IsFine count before x rest × IsFirstFault count size (before ++ (x.word ∷ [])) rest fault)
 
 -- never more than the limit are open at once, where so many are open before the words
 abbrev pub IsShallow : ℕ → List Word → Type 0

@@ -3,7 +3,7 @@
 --   condition   = conjunction, or condition "or" conjunction
 --   conjunction = operand, or conjunction "and" operand
 --   operand     = "any", a name, "not" and a name, or "(" condition ")"
-use Rattle.std.specs.Prelude.{ℕ, ◌≡◌, Bool, true, false, List, [], ◌∷◌, ◌++◌}
+use Rattle.std.specs.Prelude.{ℕ, ◌≡◌, ◌+◌, Bool, true, false, List, [], ◌∷◌, ◌++◌}
 use Rattle.arbac_policy.specs.Truth.{Term, any, has, lacks, both, either}
 use Rattle.cond_text.specs.declared.level.Level.{Level}
 use Rattle.cond_text.specs.declared.level.Level.TheVariants.{Operand, Conjunction, Condition}
@@ -56,6 +56,14 @@ value (a_not role) = lacks role
 value (enclosed p) = value p
 value (an_and p q) = both (value p) (value q)
 value (an_or p q) = either (value p) (value q)
+
+-- how many terms of the format a condition has: each "any", name and "not" with a name is one
+abbrev pub term_count : Term → ℕ
+term_count any = 1
+term_count (has role) = 1
+term_count (lacks role) = 1
+term_count (both t u) = term_count t + term_count u
+term_count (either t u) = term_count t + term_count u
 
 -- the words spell a condition that stands for the term
 pub record Stands (words : List Word) (term : Term) : Type 0 where

@@ -38,7 +38,8 @@ begins_with_name (x ∷ xs) = is_name x.word
 -- the limit or the number that a word breaks which may stand there
 abbrev pub limit : ℕ → ℕ → ℕ → ℕ → Bool → Word → Option CondError
 limit count terms nested place ahead Any = cond (nat_le MOST_TERMS terms) (Some (TooDeep place)) None
-limit count terms nested place ahead (Name role) = cond (nat_le MOST_TERMS terms) (Some (TooDeep place)) (cond (nat_le count role) (Some (UnknownRole place)) None)
+limit count terms nested place ahead (Name role) =
+    cond (nat_le MOST_TERMS terms) (Some (TooDeep place)) (cond (nat_le count role) (Some (UnknownRole place)) None)
 limit count terms nested place ahead Not = cond (nat_le MOST_TERMS terms && ahead) (Some (TooDeep place)) None
 limit count terms nested place ahead Open = cond (nat_le MOST_OPEN nested) (Some (TooDeep place)) None
 limit count terms nested place ahead And = None
@@ -56,7 +57,8 @@ unless (Some fault) s = Err fault
 
 -- the state behind the word, or its fault
 abbrev pub advance : ℕ → State → ℕ → ℕ → Bool → Word → Result State CondError
-advance count s terms place ahead w = or_fault (step s w) (Unexpected place) >>= λ next. unless (limit count terms (open_in s) place ahead w) next
+advance count s terms place ahead w =
+    or_fault (step s w) (Unexpected place) >>= λ next. unless (limit count terms (open_in s) place ahead w) next
 
 abbrev pub ending : ℕ → Option Term → Result Term CondError
 ending size None = Err (Unexpected size)
@@ -65,4 +67,5 @@ ending size (Some t) = Ok t
 -- the term of the words, or the first fault
 abbrev pub judge : ℕ → ℕ → State → ℕ → List Placed → Result Term CondError
 judge count size s terms [] = ending size (finish s)
-judge count size s terms (x ∷ xs) = advance count s terms x.place (begins_with_name xs) x.word >>= λ next. judge count size next (terms + weight x.word) xs
+judge count size s terms (x ∷ xs) =
+    advance count s terms x.place (begins_with_name xs) x.word >>= λ next. judge count size next (terms + weight x.word) xs

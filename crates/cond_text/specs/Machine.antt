@@ -4,12 +4,13 @@ use Rattle.arbac_policy.specs.Truth.{Term, any, has, lacks, both, either}
 use Rattle.cond_text.specs.declared.word.Word.{Word}
 use Rattle.cond_text.specs.declared.word.Word.TheVariants.{Any, Name, Not, And, Or, Open, Close, Stray}
 
--- what was read since a parenthesis opened: what stands before the last "or", and before the last "and" behind that
+-- what was read since a parenthesis opened: before the last "or", and before the last "and" behind it
 pub record Frame : Type 0 where
   pub ors : Option Term
   pub ands : Option Term
 
--- an operand is wanted, or the name behind a "not", or a conjunction was read; the frames are those of the open parentheses, the innermost first
+-- an operand is wanted, or the name behind a "not", or a conjunction was read;
+-- the frames are those of the open parentheses, the innermost first
 pub data State : Type 0 where
   wants_operand : List Frame → Frame → State
   wants_name : List Frame → Frame → State

@@ -36,11 +36,3 @@ text_of names term = written names (phrase_at Condition term)
 abbrev pub parentheses : List ℕ → ℕ
 parentheses [] = 0
 parentheses (b ∷ bs) = (if b == 40 then 1 else 0) + parentheses bs
-
--- how many terms a condition has: its parts that are no "and" and no "or"
-abbrev pub size : Term → ℕ
-size any = 1
-size (has role) = 1
-size (lacks role) = 1
-size (both t u) = size t + size u
-size (either t u) = size t + size u

@@ -1,5 +1,5 @@
 -- What a text of a condition stands for, and how reading it answers.
-use Rattle.std.specs.Prelude.{ℕ, ◌≡◌, ◌≤◌, List, [], length, Result, Ok, Err}
+use Rattle.std.specs.Prelude.{ℕ, ◌≡◌, ◌≤◌, ◌⊎◌, List, [], length, Result, Ok, Err}
 use Rattle.arbac_policy.specs.declared.cond.Cond.{Cond}
 use Rattle.arbac_policy.specs.Truth.{Term, term_of}
 use Rattle.cond_text.specs.declared.cond_error.CondError.{CondError}
@@ -28,9 +28,18 @@ abbrev pub Reads : Result Cond CondError → Term → Type 0
 Reads (Ok cond) term = term_of cond ≡ term
 Reads (Err error) term = error ≡ Memory
 
--- the error is the text's first fault, or want of memory
+-- the fault is the first of the text
+abbrev pub IsFirstOf : List (List ℕ) → List ℕ → CondError → Type 0
+IsFirstOf names text fault = IsFirstFault (length names) (length text) [] (placed_words names text) fault
+
+-- the error is the first fault of the text, or want of memory
 abbrev pub IsRefused : List (List ℕ) → List ℕ → CondError → Type 0
-IsRefused names text (Unexpected place) = IsFirstFault (length names) (length text) [] (placed_words names text) (Unexpected place)
-IsRefused names text (UnknownRole place) = IsFirstFault (length names) (length text) [] (placed_words names text) (UnknownRole place)
-IsRefused names text (TooDeep place) = IsFirstFault (length names) (length text) [] (placed_words names text) (TooDeep place)
+IsRefused names text (Unexpected place) = IsFirstOf names text (Unexpected place)
+IsRefused names text (UnknownRole place) = IsFirstOf names text (UnknownRole place)
+IsRefused names text (TooDeep place) = IsFirstOf names text (TooDeep place)
 IsRefused names text Memory = Unit {0}
+
+-- the error is the fault, unless memory ran out
+abbrev pub Refuses : Result Cond CondError → CondError → Type 0
+Refuses (Ok cond) fault = ⊥
+Refuses (Err error) fault = (error ≡ fault) ⊎ (error ≡ Memory)

@@ -1,5 +1,5 @@
 -- What the code's states are seen as, and what a private function gives.
-use Rattle.std.specs.Prelude.{ℕ, ◌≡◌, List, [], ◌∷◌, map, reverse, option_map, Option, Some, None, Result, Ok, Err}
+use Rattle.std.specs.Prelude.{◌≡◌, List, [], ◌∷◌, map, reverse, option_map, Option, Some, None, Result, Ok, Err}
 use Rattle.arbac_policy.specs.Truth.{term_of}
 use Rattle.cond_text.specs.declared.word.Placed.{Placed}
 use Rattle.cond_text.specs.declared.cond_error.CondError.{CondError}
@@ -19,7 +19,8 @@ stack_of xs = reverse (map frame_of xs)
 abbrev pub state_of : s.State → State
 state_of (v.WantsOperand outer frame) = wants_operand (stack_of outer.items) (frame_of frame)
 state_of (v.WantsName outer frame) = wants_name (stack_of outer.items) (frame_of frame)
-state_of (v.HasConjunction outer ors conjunction) = has_conjunction (stack_of outer.items) (option_map term_of ors) (term_of conjunction)
+state_of (v.HasConjunction outer ors conjunction) =
+    has_conjunction (stack_of outer.items) (option_map term_of ors) (term_of conjunction)
 
 -- the first word, and those behind it
 abbrev pub uncons : List Placed → Option (Placed × List Placed)

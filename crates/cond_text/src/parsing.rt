@@ -7,8 +7,8 @@ ghost use Rattle.cond_text.specs.Machine.{start, finish};
 ghost use Rattle.cond_text.specs.Faults.{weight as term_weight};
 ghost use Rattle.cond_text.specs.Judge.{is_name as is_word_name, begins_with_name as name_first, open_in as open_now, limit, advance as advanced, ending, judge as judged};
 ghost use Rattle.cond_text.specs.Views.{state_of, uncons, Gives};
-ghost use Rattle.cond_text.specs.Printing.{size};
-ghost use Rattle.cond_text.specs.Reading.{StandsFor, IsFaultless, IsWithin, Reads, IsRefused};
+ghost use Rattle.cond_text.specs.Grammar.{term_count};
+ghost use Rattle.cond_text.specs.Reading.{StandsFor, IsFaultless, IsWithin, Reads, IsRefused, IsFirstOf, Refuses};
 
 use crate::cond_error::CondError;
 use crate::reader::{Frame, State, or_of, step};
@@ -122,7 +122,8 @@ fn advance(
     name_follows: bool,
     found: Placed,
 ) -> Result<State, CondError>
-    ensures { Gives state_of result (advanced count (state_of state) terms found.place name_follows found.word) }
+    ensures { Gives state_of result (advanced count (state_of state) terms found.place name_follows
+        found.word) }
 {
     let nested = open_in(&state);
     match step(alloc, state, found.word)? {
@@ -185,9 +186,11 @@ fn judge(alloc: Global, count: u16, size: u32, list: &[Placed]) -> Result<Cond, 
     end(alloc, size, state)
 }
 
+/// The condition of the text, exactly.
 fn read(alloc: Global, order: &Order, text: &str) -> Result<Cond, CondError>
     requires { length text.now < 2 ^ 32 }
-    ensures { Gives term_of result (judged (length order.now.names) (length text.now) start 0 (listed order.now.names text.now)) }
+    ensures { Gives term_of result (judged (length order.now.names) (length text.now) start 0
+        (listed order.now.names text.now)) }
 {
     let list = placed_words(alloc, order, text.as_bytes())?;
     judge(alloc, order.count(), text.len() as u32, list.as_slice())
@@ -195,23 +198,30 @@ fn read(alloc: Global, order: &Order, text: &str) -> Result<Cond, CondError>
 
 /// The condition that the text stands for under the order's names, or its first fault.
 ///
-/// Words are any, not, and, or, names and parentheses; spaces and tabs stand between them. `and`
-/// binds tighter than `or`, both group to the left, and `not` stands before a name alone.
+/// Its words are `any`, `not`, `and`, `or`, names and parentheses, with spaces and tabs between them
+/// where they like. `and` binds tighter than `or`, both group to the left, and `not` stands before a
+/// name alone (this project). At most `MOST_TERMS` terms and `MOST_OPEN` open parentheses are read.
 pub fn parse_cond(alloc: Global, order: &Order, text: &str) -> Result<Cond, CondError>
     requires { length text.now < 2 ^ 32 }
     // What is read is what the text stands for, and no word has a fault.
-    ensures found { IfOk result (λ cond. StandsFor order.now.names text.now (term_of cond) × IsFaultless order.now.names text.now) }
+    ensures found { IfOk result (λ cond. StandsFor order.now.names text.now (term_of cond)
+        × IsFaultless order.now.names text.now) }
     // It has few terms, and each of its roles is one of the order's.
-    ensures few { IfOk result (λ cond. size (term_of cond) ≤ MOST_TERMS) }
+    ensures few { IfOk result (λ cond. term_count (term_of cond) ≤ MOST_TERMS) }
     ensures known { IfOk result (λ cond. IsKnown (length order.now.names) (term_of cond)) }
     // A text that stands for a condition, without a fault, is read as that condition.
-    ensures only { (term : Term) → StandsFor order.now.names text.now term → IsFaultless order.now.names text.now → Reads result term }
+    ensures only { (term : Term) → StandsFor order.now.names text.now term
+        → IsFaultless order.now.names text.now → Reads result term }
     // So is one that stands for a condition and keeps the limits.
-    ensures within { (term : Term) → StandsFor order.now.names text.now term → IsWithin order.now.names text.now → Reads result term }
+    ensures within { (term : Term) → StandsFor order.now.names text.now term
+        → IsWithin order.now.names text.now → Reads result term }
     // An error is the first fault.
     ensures first { IfErr result (IsRefused order.now.names text.now) }
+    // The first fault of a text, where it has one, is the error.
+    ensures told { (fault : CondError) → IsFirstOf order.now.names text.now fault → Refuses result fault }
     // A text stands for one condition at most.
-    ensures one { (left right : Term) → StandsFor order.now.names text.now left → StandsFor order.now.names text.now right → left ≡ right }
+    ensures one { (left right : Term) → StandsFor order.now.names text.now left
+        → StandsFor order.now.names text.now right → left ≡ right }
 {
     read(alloc, order, text)
 }

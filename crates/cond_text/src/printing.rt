@@ -4,7 +4,8 @@ ghost use Rattle.std.specs.Prelude.{◌≡◌, ◌++◌, ◌<◌, ◌≤◌, ℕ
 ghost use Rattle.std.specs.String.{string_bytes};
 ghost use Rattle.arbac_policy.specs.Truth.{Term, term_of, IsKnown};
 ghost use Rattle.cond_text.specs.Reading.{StandsFor, IsFaultless};
-ghost use Rattle.cond_text.specs.Printing.{phrase_at, written, text_of, parentheses, size};
+ghost use Rattle.cond_text.specs.Grammar.{term_count};
+ghost use Rattle.cond_text.specs.Printing.{phrase_at, written, text_of, parentheses};
 
 use crate::MOST_TERMS;
 use crate::level::Level;
@@ -50,7 +51,8 @@ fn write_or(out: &mut String) -> Result<(), AllocError>
 
 fn write_name(order: &Order, out: &mut String, role: u16) -> Result<(), AllocError>
     requires { role < length order.now.names }
-    ensures { OnOk result (string_bytes out.new ≡ string_bytes out.old ++ get_or order.now.names role []) }
+    ensures { OnOk result (string_bytes out.new ≡ string_bytes out.old
+        ++ get_or order.now.names role []) }
 {
     out.push_str(order.name(role))
 }
@@ -58,7 +60,8 @@ fn write_name(order: &Order, out: &mut String, role: u16) -> Result<(), AllocErr
 /// Writes the condition where the level is wanted, in parentheses where it must be.
 fn write_at(order: &Order, out: &mut String, level: Level, cond: &Cond) -> Result<(), AllocError>
     requires { IsKnown (length order.now.names) (term_of cond.now) }
-    ensures { OnOk result (string_bytes out.new ≡ string_bytes out.old ++ written order.now.names (phrase_at level (term_of cond.now))) }
+    ensures { OnOk result (string_bytes out.new ≡ string_bytes out.old
+        ++ written order.now.names (phrase_at level (term_of cond.now))) }
 {
     match cond {
         Cond::Any => {
@@ -97,15 +100,18 @@ fn write_at(order: &Order, out: &mut String, level: Level, cond: &Cond) -> Resul
 
 /// The text with the fewest parentheses that stands for the condition.
 ///
-/// It is as deep in calls as the condition is in parts.
+/// Its calls nest as deep as the condition does.
 pub fn print_cond(alloc: Global, order: &Order, cond: &Cond) -> Result<String, AllocError>
     requires { IsKnown (length order.now.names) (term_of cond.now) }
-    ensures stands { IfOk result (λ text. StandsFor order.now.names (string_bytes text) (term_of cond.now)) }
+    ensures stands { IfOk result (λ text. StandsFor order.now.names (string_bytes text)
+        (term_of cond.now)) }
     // No text that stands for the condition has fewer parentheses.
-    ensures fewest { IfOk result (λ text. (other : List ℕ) → StandsFor order.now.names other (term_of cond.now)
-        → parentheses (string_bytes text) ≤ parentheses other) }
+    ensures fewest { IfOk result (λ text. (other : List ℕ)
+        → StandsFor order.now.names other (term_of cond.now) → parentheses (string_bytes text) ≤ parentheses other) }
     // With few enough terms no word has a fault: parse_cond gives the condition back.
-    ensures back { IfOk result (λ text. size (term_of cond.now) ≤ MOST_TERMS → IsFaultless order.now.names (string_bytes text)) }
+    ensures back { IfOk result (λ text. term_count (term_of cond.now) ≤ MOST_TERMS
+        → IsFaultless order.now.names (string_bytes text)) }
+    // It is this text.
     ensures written { IfOk result (λ text. string_bytes text ≡ text_of order.now.names (term_of cond.now)) }
 {
     // The count tells that the names are those of an order.

@@ -59,13 +59,15 @@ pub fn or_of(alloc: Global, left: Option<Cond>, right: Cond) -> Result<Cond, All
     }
 }
 
+/// The state behind an operand.
 fn with_operand(
     alloc: Global,
     outer: Vec<Frame>,
     frame: Frame,
     operand: Cond,
 ) -> Result<State, AllocError>
-    ensures { IfOk result (λ s. state_of s ≡ operand_read (stack_of outer.items) (frame_of frame) (term_of operand)) }
+    ensures { IfOk result (λ s. state_of s ≡ operand_read (stack_of outer.items) (frame_of frame)
+        (term_of operand)) }
 {
     let Frame { ors, ands } = frame;
     Ok(State::HasConjunction {
@@ -75,6 +77,7 @@ fn with_operand(
     })
 }
 
+/// The frames with one more, whose parenthesis just opened.
 fn with_frame(mut outer: Vec<Frame>, frame: Frame) -> Result<Vec<Frame>, AllocError>
     ensures { IfOk result (λ v. stack_of v.items ≡ frame_of frame ∷ stack_of outer.items) }
 {
@@ -88,7 +91,8 @@ fn step_operand(
     frame: Frame,
     word: Word,
 ) -> Result<Option<State>, AllocError>
-    ensures { IfOk result (λ o. option_map state_of o ≡ behind_operand (stack_of outer.items) (frame_of frame) word) }
+    ensures { IfOk result (λ o. option_map state_of o ≡ behind_operand (stack_of outer.items)
+        (frame_of frame) word) }
 {
     match word {
         Word::Any => Ok(Some(with_operand(alloc, outer, frame, Cond::Any)?)),
@@ -114,7 +118,8 @@ fn step_name(
     frame: Frame,
     word: Word,
 ) -> Result<Option<State>, AllocError>
-    ensures { IfOk result (λ o. option_map state_of o ≡ behind_name (stack_of outer.items) (frame_of frame) word) }
+    ensures { IfOk result (λ o. option_map state_of o ≡ behind_name (stack_of outer.items)
+        (frame_of frame) word) }
 {
     match word {
         Word::Name(role) => Ok(Some(with_operand(alloc, outer, frame, Cond::Lacks(role))?)),
@@ -145,7 +150,8 @@ fn step_conjunction(
     conjunction: Cond,
     word: Word,
 ) -> Result<Option<State>, AllocError>
-    ensures { IfOk result (λ o. option_map state_of o ≡ behind_conjunction (stack_of outer.items) (option_map term_of ors) (term_of conjunction) word) }
+    ensures { IfOk result (λ o. option_map state_of o ≡ behind_conjunction (stack_of outer.items)
+        (option_map term_of ors) (term_of conjunction) word) }
 {
     match word {
         Word::And => Ok(Some(State::WantsOperand {

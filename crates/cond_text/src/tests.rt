@@ -191,13 +191,21 @@ fn long_texts_are_refused(rt: HostRuntime) -> Result<(), Fail> {
     Ok(())
 }
 
-/// 64 terms with 62 parentheses open at once come back.
+/// The opening so many times, the middle, and as many closing parentheses.
+fn nested(alloc: Global, opening: &str, times: usize, middle: &str) -> Result<String, AllocError> {
+    let mut text = repeated(alloc, opening, times, middle)?;
+    text.push_str(repeated(alloc, ")", times, "")?.as_str())?;
+    Ok(text)
+}
+
+/// The limits are not passed by 64 terms and 64 open parentheses.
 #[test]
-fn what_is_written_is_read_back(rt: HostRuntime) -> Result<(), Fail> {
+fn texts_at_the_limits_are_read(rt: HostRuntime) -> Result<(), Fail> {
     let alloc = rt.alloc();
     let order = order_of(&rt, alloc)?;
-    let mut text = repeated(alloc, "a and (", 62, "a and b")?;
-    text.push_str(repeated(alloc, ")", 62, "")?.as_str())?;
+    let text = nested(alloc, "(", 64, "a")?;
+    assert_eq!(rt; told(&rt, alloc, &order, text.as_str())?.as_str(), "a = a");
+    let text = nested(alloc, "a and (", 62, "a and b")?;
     assert!(rt; text.len() < 1_000_000);
     let cond = parse_cond(alloc, &order, text.as_str())?;
     assert_eq!(rt; print_cond(alloc, &order, &cond)?.as_str(), text.as_str());

@@ -1,5 +1,5 @@
 use Rattle.cond_text.proofs.CompleteLemmas.{one_term}
-use Rattle.cond_text.proofs.ReadLemmas.{found_of, few_of, known_of, only_of, within_of, first_of}
+use Rattle.cond_text.proofs.ReadLemmas.{found_of, few_of, known_of, only_of, within_of, first_of, told_of}
 use Rattle.cond_text.specs.Words.{words}
 use Rattle.cond_text.proofs.parsing.parse_cond.Goals as goal
 
@@ -20,6 +20,9 @@ returns-clause-within c = within_of c.args.order.now.names c.args.text.now c.rea
 
 pub returns-clause-first : goal.returns-clause-first
 returns-clause-first c = first_of c.args.order.now.names c.args.text.now c.read.result c.read.ensures
+
+pub returns-clause-told : goal.returns-clause-told
+returns-clause-told c = told_of c.args.order.now.names c.args.text.now c.read.result c.read.ensures
 
 pub returns-clause-one : goal.returns-clause-one
 returns-clause-one c = one_term (words c.args.order.now.names c.args.text.now)

@@ -1,4 +1,4 @@
-use Rattle.std.proofs.Common.{◌≡◌, ◌+◌, ◌++◌, ◌∙◌, ap, sym, arith, drop, drop_of_length-le}
+use Rattle.std.proofs.Common.{◌+◌, ◌++◌, ◌∙◌, ap, sym, drop, drop_of_length-le}
 use Rattle.cond_text.specs.Words.{word_at, placed, words_from}
 use Rattle.cond_text.proofs.WordLemmas.{from_place, word_kept, words_end}
 use Rattle.cond_text.proofs.words.placed_words.Goals as goal
