@@ -1,7 +1,8 @@
 -- The form that a line has, computed. The laws say that it is the one form that the line spells.
 use Rattle.std.specs.Prelude.{ℕ, ◌==◌, ◌&&◌, ◌||◌, nat_lt, ◌^◌, Bool, true, false, not, if◌then◌else◌, List, [], ◌∷◌, ◌++◌, length, get_or, Option, Some, None, option_and_then, codes}
 use Rattle.std.specs.List.{list_all}
-use Rattle.std.specs.Str.{bytes_eq, is_utf8, all_ascii_digits}
+use Rattle.std.specs.Char.{is_ascii_digit}
+use Rattle.std.specs.Str.{bytes_eq, is_utf8}
 use Rattle.std.specs.Str.Parse.{digits_value}
 use Rattle.role_order.specs.Names.{is_name}
 use Rattle.arbac_policy.specs.declared.act.ActKind.{ActKind}
@@ -27,7 +28,7 @@ text_in text = only_if (is_utf8 text) text
 
 -- decimal digits, without a leading zero
 unfoldable pub is_numeral : List ℕ → Bool
-is_numeral text = all_ascii_digits text && not (length text == 0) && (not (get_or text 0 0 == 48) || (length text == 1))
+is_numeral text = list_all is_ascii_digit text && not (length text == 0) && (not (get_or text 0 0 == 48) || (length text == 1))
 
 unfoldable pub number_in : List ℕ → Option ℕ
 number_in text = only_if (is_numeral text && nat_lt (digits_value 10 text) (2 ^ 32)) (digits_value 10 text)

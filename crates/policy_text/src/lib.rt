@@ -2,6 +2,7 @@
 #![tactic(auto)]
 
 mod line;
+mod lines;
 mod run;
 mod run_error;
 
