@@ -1,2 +1,5 @@
 pub mod LineLemmas
 pub mod WordLemmas
+pub mod NumberLemmas
+pub mod FormLemmas
+pub mod SpellLemmas

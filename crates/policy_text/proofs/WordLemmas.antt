@@ -44,16 +44,17 @@ are_small (b ∷ bs) h (suc i) = are_small bs (and_right (is_name_byte b) _ h) i
 pub name_text : (text : List ℕ) → is_name text ≡ true → IsUtf8 text
 name_text text h = IsUtf8-from_ascii text (are_small text (name_bytes text h))
 
+-- a text of such bytes alone has no other byte
+pub lacks_other : (p : ℕ → Bool) (sign : ℕ) (text : List ℕ) → p sign ≡ false → list_all p text ≡ true → Lacks sign text
+lacks_other p sign [] out h = tt
+lacks_other p sign (b ∷ bs) out h = (ne_eqb b sign (λ e. absurd (other e)), lacks_other p sign bs out (and_right (p b) _ h))
+  where
+    other : b ≡ sign → ⊥
+    other same = let there : p sign ≡ true = ap p (sym same) ∙ and_left (p b) _ h in cc
+
 -- a name has none of the bytes that aren't a name's
 pub name_lacks : (sign : ℕ) (text : List ℕ) → is_name_byte sign ≡ false → is_name text ≡ true → Lacks sign text
-name_lacks sign text out h = lacks text (name_bytes text h)
-  where
-    lacks : (text : List ℕ) → list_all is_name_byte text ≡ true → Lacks sign text
-    lacks [] h = tt
-    lacks (b ∷ bs) h = (ne_eqb b sign (λ e. absurd (other b (and_left (is_name_byte b) _ h) e)), lacks bs (and_right (is_name_byte b) _ h))
-      where
-        other : (b : ℕ) → is_name_byte b ≡ true → b ≡ sign → ⊥
-        other b is same = let there : is_name_byte sign ≡ true = ap is_name_byte (sym same) ∙ is in cc
+name_lacks sign text out h = lacks_other is_name_byte sign text out (name_bytes text h)
 
 pub name_given : (bytes text : List ℕ) → text ≡ bytes → is_name bytes ≡ true → Some text ≡ name_in bytes
 unfolding name_in
@@ -93,11 +94,11 @@ pub number_refused : (bytes : List ℕ) → is_numeral bytes ≡ false → None 
 unfolding number_in
 number_refused bytes h = rw h refl
 
-digits_of : (bytes : List ℕ) → is_numeral bytes ≡ true → list_all is_ascii_digit bytes ≡ true
+pub digits_of : (bytes : List ℕ) → is_numeral bytes ≡ true → list_all is_ascii_digit bytes ≡ true
 unfolding is_numeral
 digits_of bytes h = and_left (list_all is_ascii_digit bytes) _ (and_left (list_all is_ascii_digit bytes && not (eqb (length bytes) 0)) _ h)
 
-numeral_long : (bytes : List ℕ) → is_numeral bytes ≡ true → 0 < length bytes
+pub numeral_long : (bytes : List ℕ) → is_numeral bytes ≡ true → 0 < length bytes
 unfolding is_numeral
 numeral_long bytes h = longer bytes (and_right (list_all is_ascii_digit bytes) _ (and_left (list_all is_ascii_digit bytes && not (eqb (length bytes) 0)) _ h))
   where
@@ -163,7 +164,7 @@ words_one (b ∷ bs) e = by_byte (eqb b 32) e (words_one bs)
         by_rest (Some found) f e later = cc
         by_rest None f e later = rw (later f) refl
 
-name_is : (bytes name : List ℕ) → Some name ≡ name_in bytes → (is_name bytes ≡ true) × (name ≡ bytes)
+pub name_is : (bytes name : List ℕ) → Some name ≡ name_in bytes → (is_name bytes ≡ true) × (name ≡ bytes)
 unfolding name_in
 name_is bytes name e = by_test (is_name bytes) refl e
   where
