@@ -3,3 +3,5 @@ pub mod WordLemmas
 pub mod NumberLemmas
 pub mod FormLemmas
 pub mod SpellLemmas
+pub mod StepLemmas
+pub mod RunLemmas

@@ -4,3 +4,4 @@ pub mod Runs
 pub mod Faults
 pub mod Spelling
 pub mod Views
+pub mod Steps

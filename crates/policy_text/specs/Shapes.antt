@@ -1,5 +1,5 @@
 -- The forms of the lines between the first line and the last, and how they are spelled.
-use Rattle.std.specs.Prelude.{ℕ, ◌≡◌, ◌<◌, ◌^◌, Bool, true, if◌then◌else◌, List, [], ◌∷◌, ◌++◌, codes}
+use Rattle.std.specs.Prelude.{ℕ, ◌≡◌, ◌<◌, ◌^◌, Bool, true, false, if◌then◌else◌, List, [], ◌∷◌, ◌++◌, codes}
 use Rattle.std.specs.Fmt.{decimal}
 use Rattle.std.specs.Str.{IsUtf8}
 use Rattle.role_order.specs.Lists.{Each}
@@ -39,6 +39,26 @@ IsShape (a_revoke admin range) = IsName admin × IsNamedRange range
 IsShape (a_user names) = Each IsName names
 IsShape (an_act kind admin target role) = (admin < 2 ^ 32) × (target < 2 ^ 32) × IsName role
 IsShape (a_goal condition) = IsUtf8 condition
+
+-- the line tells a role or an edge
+abbrev pub tells_order : Shape → Bool
+tells_order (a_role name) = true
+tells_order (an_edge senior junior) = true
+tells_order (an_assign admin range condition) = false
+tells_order (a_revoke admin range) = false
+tells_order (a_user names) = false
+tells_order (an_act kind admin target role) = false
+tells_order (a_goal condition) = false
+
+-- the bytes of the line's condition
+abbrev pub condition_of : Shape → List ℕ
+condition_of (an_assign admin range condition) = condition
+condition_of (a_goal condition) = condition
+condition_of (a_role name) = []
+condition_of (an_edge senior junior) = []
+condition_of (a_revoke admin range) = []
+condition_of (a_user names) = []
+condition_of (an_act kind admin target role) = []
 
 abbrev pub spell_kind : ActKind → List ℕ
 spell_kind Assign = codes "assign"

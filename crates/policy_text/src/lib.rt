@@ -1,8 +1,10 @@
 //! The texts of policies: runs.
 #![tactic(auto)]
 
+mod body;
 mod line;
 mod lines;
+mod listing;
 mod run;
 mod run_error;
 
