@@ -5,3 +5,4 @@ pub mod FormLemmas
 pub mod SpellLemmas
 pub mod StepLemmas
 pub mod RunLemmas
+pub mod UserLemmas

@@ -1,7 +1,11 @@
 -- What one line does: from its form to the line, and from line to line.
 use Rattle.std.proofs.Common.{ℕ, ◌≡◌, ◌<◌, ◌≤◌, ◌+◌, ◌⊎◌, inl, inr, Bool, true, false, List, [], ◌∷◌, ◌++◌, append_assoc, length, refl, arith, sym, ◌∙◌, ap, subst, Option, Some, None, map, zero, suc, eqb, cond}
 use Rattle.std.proofs.Common.{length-append}
-use Rattle.std.specs.Prelude.{codes, OnOk, IfErr, Result, Ok, Err}
+use Rattle.std.specs.Str.{bytes_eq}
+use Rattle.std.proofs.lemmas.Bool.{eq-eqb, eqb-true}
+use Rattle.std.proofs.lemmas.Slice.Eq.{bytes_eq-Decides}
+use Rattle.policy_text.proofs.WordLemmas.{and_left, and_right}
+use Rattle.std.specs.Prelude.{◌&&◌, not, codes, OnOk, IfErr, Result, Ok, Err}
 use Rattle.role_order.specs.Lists.{Each}
 use Rattle.role_order.specs.Refusals.{IsOrder}
 use Rattle.role_order.specs.declared.TheConstants.{MOST_ROLES}
@@ -172,3 +176,52 @@ body_stop run mid text rest line later number at (Cond k error) p c past f = sto
 body_stop run mid text rest line later number at (Order error) p c past f = f
 body_stop run mid text rest line later number at Unended p c past f = absurd f
 body_stop run mid text rest line later number at Memory p c past f = tt
+
+pub is_last : (line : List ℕ) (n : ℕ) → (bytes_eq line (codes "end") && not (eqb n 0)) ≡ true → (line ≡ codes "end") × (n ≡ 0 → ⊥)
+is_last line n e =
+    ((bytes_eq-Decides line (codes "end")).0 (and_left (bytes_eq line (codes "end")) _ e), λ z. none (eqb n 0) (eq-eqb n 0 z) (and_right (bytes_eq line (codes "end")) _ e))
+  where
+    none : (t : Bool) → t ≡ true → not t ≡ true → ⊥
+    none true a b = absurd (cc)
+    none false a b = absurd (cc)
+
+pub is_not_last : (line : List ℕ) (n : ℕ) → (bytes_eq line (codes "end") && not (eqb n 0)) ≡ false → line ≡ codes "end" → n ≡ 0
+is_not_last line n e is =
+    let t : bytes_eq line (codes "end") ≡ true = (bytes_eq-Decides line (codes "end")).1 is in
+    eqb-true n 0 (tested (eqb n 0) (rw t at e))
+  where
+    tested : (t : Bool) → not t ≡ false → t ≡ true
+    tested true h = refl
+    tested false h = cc
+
+longer_by_one : {A : Type 0} (xs : List A) (x : A) (n : ℕ) → length (xs ++ x ∷ []) + n ≡ 0 → ⊥
+longer_by_one [] x n e = omega arith
+longer_by_one (y ∷ ys) x n e = omega arith
+
+zero_both : (a b : ℕ) → a + b ≡ 0 → (a ≡ 0) × (b ≡ 0)
+zero_both a b e = (omega arith, omega arith)
+
+-- behind a line that is none of the role order's, a later section has begun
+pub begun : (run next : RunValue) (line : List ℕ) → AddsLine run line next → (is_order_line line ≡ true → behind_edges run ≡ 0 → ⊥) → behind_edges next ≡ 0 → ⊥
+begun run next line a late = by_shape a.shape (ap is_order_line (sym a.spelled) ∙ order_line_is a.shape) a.adds
+  where
+    at : RunValue → Type 0
+    at r = behind_edges r ≡ 0 → ⊥
+
+    by_shape : (shape : Shape) → is_order_line line ≡ tells_order shape → Adds run shape next → behind_edges next ≡ 0 → ⊥
+    by_shape (a_role name) t a = absurd (late t (zero_both (length run.edges) (behind_edges run) a.place).1)
+    by_shape (an_edge senior junior) t a = absurd (late t a.place.0)
+    by_shape (an_assign admin range condition) t a = subst at (sym a.gains.4) (λ e. longer_by_one run.assign a.gains.0 _ e)
+    by_shape (a_revoke admin range) t a = subst at (sym a.gains.3) (λ e. longer_by_one run.revoke a.gains.0 _ (zero_both (length run.assign) _ e).1)
+    by_shape (a_user names) t a = subst at (sym a.gains.2) (λ e. longer_by_one run.start a.gains.0 _ (zero_both (length run.revoke) _ (zero_both (length run.assign) _ e).1).1)
+    by_shape (an_act kind admin target role) t a =
+        subst at (sym a.gains.5) (λ e. longer_by_one run.acts a.gains.0 _ (zero_both (length run.start) _ (zero_both (length run.revoke) _ (zero_both (length run.assign) _ e).1).1).1)
+    by_shape (a_goal condition) t a =
+        subst at (sym a.gains.2) (λ e. last run.goal a.gains.0 (zero_both (length run.acts) _ (zero_both (length run.start) _ (zero_both (length run.revoke) _ (zero_both (length run.assign) _ e).1).1).1).1)
+      where
+        last : {A : Type 0} (xs : List A) (x : A) → length (xs ++ x ∷ []) ≡ 0 → ⊥
+        last [] x e = omega arith
+        last (y ∷ ys) x e = omega arith
+
+pub late_line : (n : ℕ) (rest line later : List ℕ) → cut 10 rest ≡ Some (line, later) → (n ≡ 0 → EndsOrder (split rest).0) → is_order_line line ≡ true → n ≡ 0 → ⊥
+late_line n rest line later c fresh t z = let f = begins_line rest line later c (fresh z) in absurd (cc)

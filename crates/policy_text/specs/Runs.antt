@@ -115,6 +115,12 @@ Says names text term = Means names text term × IsFaultless names text
 abbrev pub set_of : List ℕ → List ℕ
 set_of roles = fold with_role [] roles
 
+-- the names are those of the set's roles
+pub record NamesSet (names : List (List ℕ)) (words : List (List ℕ)) (set : List ℕ) : Type 0 where
+  pub roles : List ℕ
+  pub named : NameEach names words roles
+  pub set_is : set ≡ set_of roles
+
 -- with what the line says, the run becomes the next
 abbrev pub Gains : RunValue → Shape → RunValue → Type 0
 Gains run (a_role name) next = next ≡ record run { names = run.names ++ name ∷ [] }
@@ -126,7 +132,7 @@ Gains run (an_assign admin range condition) next =
 Gains run (a_revoke admin range) next =
     (rule : CanRevoke) × Names run.names admin rule.admin × NamesRange run.names range rule.range × (next ≡ record run { revoke = run.revoke ++ rule ∷ [] })
 Gains run (a_user names) next =
-    (roles : List ℕ) × NameEach run.names names roles × (next ≡ record run { start = run.start ++ set_of roles ∷ [] })
+    (set : List ℕ) × NamesSet run.names names set × (next ≡ record run { start = run.start ++ set ∷ [] })
 Gains run (an_act kind admin target role) next =
     (act : Act) × (act.kind ≡ kind) × (act.admin ≡ admin) × (act.target ≡ target) × Names run.names role act.role × (next ≡ record run { acts = run.acts ++ act ∷ [] })
 Gains run (a_goal condition) next = (term : Term) × Says run.names condition term × (next ≡ record run { goal = run.goal ++ term ∷ [] })

@@ -1,11 +1,12 @@
 //! The lines of a run text behind those of the role order.
 
-ghost use Rattle.std.specs.Prelude.{ℕ, ◌≡◌, ◌<◌, ◌≤◌, ◌^◌, ◌↔◌, ◌+◌, true, codes, IsTrue, length, map, IfOk, IfErr, IfSome, IfNone, OnOk};
+ghost use Rattle.std.specs.Prelude.{ℕ, ◌≡◌, ◌<◌, ◌≤◌, ◌^◌, ◌↔◌, ◌+◌, ◌&&◌, ◌==◌, not, true, codes, IsTrue, length, map, IfOk, IfErr, IfSome, IfNone, OnOk};
+ghost use Rattle.std.specs.Str.{bytes_eq};
 ghost use Rattle.arbac_policy.specs.Truth.{term_of};
 ghost use Rattle.policy_text.specs.Views.{range_view, shape_view};
 ghost use Rattle.policy_text.specs.Lines.{split, is_order_line};
 ghost use Rattle.policy_text.specs.Shapes.{an_assign, a_revoke, a_user, an_act, a_goal, tells_order, condition_of};
-ghost use Rattle.policy_text.specs.Runs.{Adds, Says, NamesRange, NameEach, set_of, behind_edges, behind_assigns, behind_revokes, behind_users, behind_acts};
+ghost use Rattle.policy_text.specs.Runs.{Adds, Says, NamesRange, NamesSet, behind_edges, behind_assigns, behind_revokes, behind_users, behind_acts};
 ghost use Rattle.policy_text.specs.Faults.{HasUnknownEnd, IsUnknown, IsLineFault, EndsOrder};
 ghost use Rattle.policy_text.specs.Steps.{body_view, run_view, order_view, IsFormFault, IsTextFault, AddsLine, EndsWith, IsBodyFault};
 ghost use Rattle.role_order.specs.Lists.{Some_of};
@@ -64,7 +65,8 @@ fn read_cond(alloc: Global, order: &Order, text: &str, line: u32) -> Result<Cond
 
 /// The set of the roles that have these names.
 fn set_named(order: &Order, names: &[&str]) -> Option<RoleSet>
-    ensures some { IfSome result (λ set. (roles : _) × NameEach order.now.names (map (λ name. name.now) names.now) roles × (set ≡ set_of roles)) }
+    requires { IsOrder order.now.names order.now.edges }
+    ensures some { IfSome result (NamesSet order.now.names (map (λ name. name.now) names.now)) }
     ensures none { IfNone result (Some_of (IsUnknown order.now.names) (map (λ name. name.now) names.now)) }
 {
     let mut set = RoleSet::empty();
@@ -159,6 +161,7 @@ impl Body {
     }
 
     fn add_user(&mut self, order: &Order, names: &[&str], line: u32) -> Result<(), RunError>
+        requires { IsOrder order.now.names order.now.edges }
         ensures added { OnOk result (Adds (run_view order.now self.old) (a_user (map (λ name. name.now) names.now)) (run_view order.now self.new)) }
         ensures fault { IfErr result (IsFormFault (run_view order.now self.old) (a_user (map (λ name. name.now) names.now)) line) }
     {
@@ -232,6 +235,7 @@ impl Body {
         line: u32,
     ) -> Result<(), RunError>
         requires short { length (condition_of (shape_view form.now)) < 2 ^ 32 }
+        requires order { IsOrder order.now.names order.now.edges }
         requires late { tells_order (shape_view form.now) ≡ true → ¬ (behind_edges (body_view self.old) ≡ 0) }
         ensures added { OnOk result (Adds (run_view order.now self.old) (shape_view form.now) (run_view order.now self.new)) }
         ensures fault { IfErr result (IsFormFault (run_view order.now self.old) (shape_view form.now) line) }
@@ -256,6 +260,13 @@ impl Body {
         }
     }
 
+    /// Whether the line is the last one: `end`, behind a goal.
+    fn ends(&self, line: &[u8]) -> bool
+        ensures { result ≡ (bytes_eq line.now (codes "end") && not (length self.now.goal.items == 0)) }
+    {
+        is(line, "end") && !self.goal.is_empty()
+    }
+
     /// Adds what a line says.
     fn add_line(
         &mut self,
@@ -265,6 +276,7 @@ impl Body {
         number: u32,
     ) -> Result<(), RunError>
         requires short { length line.now < 2 ^ 32 }
+        requires order { IsOrder order.now.names order.now.edges }
         requires late { is_order_line line.now ≡ true → ¬ (behind_edges (body_view self.old) ≡ 0) }
         requires unended { line.now ≡ codes "end" → length self.old.goal.items ≡ 0 }
         ensures added { OnOk result (AddsLine (run_view order.now self.old) line.now (run_view order.now self.new)) }
@@ -300,7 +312,7 @@ pub fn read_body(
     let mut rest = text;
     let mut number = first;
     while let Some((line, after)) = cut(rest, b'\n') {
-        if is(line, "end") && !body.goal.is_empty() {
+        if body.ends(line) {
             if after.is_empty() {
                 return Ok(body);
             }
