@@ -120,3 +120,18 @@ nothing_left (b ∷ bs) e f = by_byte (eqb b 10) (split bs) e f
     by_byte true s e f = absurd (cc)
     by_byte false ([], part) e f = absurd (cc)
     by_byte false (l ∷ ls, part) e f = absurd (cc)
+
+pub cut_within : (sign : ℕ) (bytes front back : List ℕ) → cut sign bytes ≡ Some (front, back) → length front < length bytes
+cut_within sign bytes front back e = within front back bytes (cut_joined sign bytes front back e)
+  where
+    within : (f r bs : List ℕ) → bs ≡ f ++ (sign ∷ r) → length f < length bs
+    within f r bs e = rw e (longer f r)
+      where
+        longer : (f r : List ℕ) → length f < length (f ++ (sign ∷ r))
+        longer [] r = omega arith
+        longer (x ∷ f) r = let l = longer f r in omega arith
+
+pub split_empty : (bytes : List ℕ) → length bytes ≡ 0 → split bytes ≡ ([], [])
+unfolding split
+split_empty [] e = refl
+split_empty (b ∷ bs) e = absurd (omega arith)

@@ -17,7 +17,7 @@ use Rattle.policy_text.specs.Spelling.{shape_of}
 use Rattle.policy_text.specs.Runs.{RunValue, nothing, MayStand, HasRoom, Gains, Adds, AddAll, behind_edges, behind_roles}
 use Rattle.policy_text.specs.Faults.{IsPlaced, IsLineFault, IsPastOrder, EndsOrder}
 use Rattle.policy_text.specs.Steps.{IsFormFault, AddsLine, Passes, StopsAt, Told, GoesOn, HasNoEnd, EndsWith, IsBodyFault}
-use Rattle.policy_text.proofs.LineLemmas.{split_none, split_first}
+use Rattle.policy_text.proofs.LineLemmas.{split_none, split_first, split_empty, nothing_left}
 use Rattle.policy_text.proofs.FormLemmas.{form_found}
 use Rattle.policy_text.proofs.SpellLemmas.{form_is}
 
@@ -225,3 +225,41 @@ begun run next line a late = by_shape a.shape (ap is_order_line (sym a.spelled) 
 
 pub late_line : (n : ℕ) (rest line later : List ℕ) → cut 10 rest ≡ Some (line, later) → (n ≡ 0 → EndsOrder (split rest).0) → is_order_line line ≡ true → n ≡ 0 → ⊥
 late_line n rest line later c fresh t z = let f = begins_line rest line later c (fresh z) in absurd (cc)
+
+-- the last line, and nothing behind it
+pub ends_here : (run last : RunValue) (text rest line later : List ℕ) (number at : ℕ) → Passes run text number last rest at → cut 10 rest ≡ Some (line, later)
+    → (bytes_eq line (codes "end") && not (eqb (length last.goal) 0)) ≡ true → eqb (length later) 0 ≡ true → EndsWith run text number last
+ends_here run last text rest line later number at p c e n =
+    let l = is_last line (length last.goal) e in
+    let none = split_empty later (eqb-true (length later) 0 n) in
+    record {
+      rest = rest;
+      at = at;
+      passed = p;
+      end = split_first rest line later c ∙ ap (λ (t : List ℕ). (t ∷ (split later).0, (split later).1)) l.0 ∙ ap (λ (s : List (List ℕ) × List ℕ). (codes "end" ∷ s.0, s.1)) none;
+      goal = some (length last.goal) l.1;
+    }
+  where
+    some : (n : ℕ) → (n ≡ 0 → ⊥) → 1 ≤ n
+    some zero h = absurd (h refl)
+    some (suc n) h = omega arith
+
+-- the last line, and more behind it
+pub goes_on : (run last : RunValue) (text rest line later : List ℕ) (number at : ℕ) → Passes run text number last rest at → cut 10 rest ≡ Some (line, later)
+    → (bytes_eq line (codes "end") && not (eqb (length last.goal) 0)) ≡ true → eqb (length later) 0 ≡ false → GoesOn run text number (at + 1)
+goes_on run last text rest line later number at p c e n =
+    let l = is_last line (length last.goal) e in
+    record {
+      last = last;
+      rest = rest;
+      at = at;
+      later = later;
+      passed = p;
+      end = split_first rest line later c ∙ ap (λ (t : List ℕ). (t ∷ (split later).0, (split later).1)) l.0;
+      goal = l.1;
+      more = λ h. let z : eqb (length later) 0 ≡ true = eq-eqb (length later) 0 (nothing_left later h.0 h.1) in absurd (cc);
+      next_is = refl;
+    }
+
+pub has_no_end : (run last : RunValue) (text rest : List ℕ) (number at : ℕ) → Passes run text number last rest at → cut 10 rest ≡ None → HasNoEnd run text number
+has_no_end run last text rest number at p c = record { last = last; rest = rest; at = at; passed = p; none = ap (λ (s : List (List ℕ) × List ℕ). s.0) (split_none rest c) }

@@ -262,7 +262,7 @@ impl Body {
 
     /// Whether the line is the last one: `end`, behind a goal.
     fn ends(&self, line: &[u8]) -> bool
-        ensures { result ≡ (bytes_eq line.now (codes "end") && not (length self.now.goal.items == 0)) }
+        ensures { result ≡ (bytes_eq line.now (codes "end") && not (behind_acts (body_view self.now) == 0)) }
     {
         is(line, "end") && !self.goal.is_empty()
     }
@@ -278,7 +278,7 @@ impl Body {
         requires short { length line.now < 2 ^ 32 }
         requires order { IsOrder order.now.names order.now.edges }
         requires late { is_order_line line.now ≡ true → ¬ (behind_edges (body_view self.old) ≡ 0) }
-        requires unended { line.now ≡ codes "end" → length self.old.goal.items ≡ 0 }
+        requires unended { line.now ≡ codes "end" → behind_acts (body_view self.old) ≡ 0 }
         ensures added { OnOk result (AddsLine (run_view order.now self.old) line.now (run_view order.now self.new)) }
         ensures fault { IfErr result (IsLineFault (run_view order.now self.old) line.now number) }
     {
@@ -296,7 +296,7 @@ pub fn read_body(
     text: &[u8],
     first: u32,
 ) -> Result<Body, RunError>
-    requires short { length text.now + first < 2 ^ 32 }
+    requires short { length text.now + first + 1 < 2 ^ 32 }
     requires order { IsOrder order.now.names order.now.edges }
     requires ends { EndsOrder (split text.now).0 }
     ensures read { IfOk result (λ body. EndsWith (order_view order.now) text.now first (run_view order.now body)) }

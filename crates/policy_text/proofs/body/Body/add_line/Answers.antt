@@ -7,7 +7,7 @@ use Rattle.policy_text.proofs.body.Body.add_line.Goals as goal
 
 pub returns-in_default-clause-fault : goal.returns-in_default-clause-fault
 returns-in_default-clause-fault c =
-    formless (run_view c.args.order.now c.args.self.now) c.args.line.now c.args.number (sym c.in_ok-form.ensures ∙ ap (option_map shape_view) c.in_default.is) ?
+    formless (run_view c.args.order.now c.args.self.now) c.args.line.now c.args.number (sym c.in_ok-form.ensures ∙ ap (option_map shape_view) c.in_default.is) c.requires.unended
 
 pub add_form-requires-clause-late : goal.add_form-requires-clause-late
 add_form-requires-clause-late c =
