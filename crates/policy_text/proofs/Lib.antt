@@ -6,3 +6,5 @@ pub mod SpellLemmas
 pub mod StepLemmas
 pub mod RunLemmas
 pub mod UserLemmas
+pub mod SoleLemmas
+pub mod ClashLemmas

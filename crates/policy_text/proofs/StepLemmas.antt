@@ -68,7 +68,7 @@ end_has_none = refl
 same_form : (line : List ℕ) (shape other : Shape) → shape_of line ≡ Some shape → IsShape other → spell other ≡ line → other ≡ shape
 same_form line shape other e formed spelled = let f : shape_of line ≡ Some other = ap shape_of (sym spelled) ∙ form_found other formed in cc
 
-no_end : (line : List ℕ) (shape : Shape) → shape_of line ≡ Some shape → line ≡ codes "end" → ⊥
+pub no_end : (line : List ℕ) (shape : Shape) → shape_of line ≡ Some shape → line ≡ codes "end" → ⊥
 no_end line shape e is = let f : shape_of line ≡ None = ap shape_of is ∙ end_has_none in absurd (cc)
 
 placed : (run : RunValue) (line : List ℕ) (shape : Shape) → shape_of line ≡ Some shape → MayStand run shape → IsPlaced run line shape

@@ -10,6 +10,7 @@ use Rattle.arbac_policy.specs.declared.act.Act.{Act}
 use Rattle.arbac_policy.specs.declared.rule.CanAssign.{CanAssign}
 use Rattle.arbac_policy.specs.declared.rule.CanRevoke.{CanRevoke}
 use Rattle.arbac_policy.specs.Truth.{Term, term_of}
+use Rattle.arbac_policy.specs.Rules.{Rules}
 use Rattle.cond_text.specs.Reading.{StandsFor as Means, IsFaultless}
 use Rattle.policy_text.specs.declared.TheConstants.{MOST_EDGES, MOST_RULES, MOST_USERS, MOST_ACTS, MOST_GOALS}
 use Rattle.policy_text.specs.declared.run.Run.{Run}
@@ -48,6 +49,12 @@ plain_of run = record {
   acts = run.acts.items;
   goal = map term_of run.goal.items;
 }
+
+-- no rules for permissions, and no exclusive pairs
+pub record IsForUsers (rules : Rules) : Type 0 where
+  pub assignp : rules.assignp ≡ []
+  pub revokep : rules.revokep ≡ []
+  pub exclusive : rules.exclusive ≡ []
 
 abbrev pub nothing : RunValue
 nothing = record { names = []; edges = []; assign = []; revoke = []; start = []; acts = []; goal = [] }

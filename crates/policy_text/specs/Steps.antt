@@ -1,5 +1,7 @@
 -- What one line does behind what was read so far, as the private functions say it.
 use Rattle.std.specs.Prelude.{ℕ, ◌≡◌, List, [], ◌∷◌, ◌++◌, ◌+◌, ◌≤◌, ◌⊎◌, map, length, true, codes}
+use Rattle.role_order.specs.declared.order.OrderError.TheVariants as refusals
+use Rattle.role_order.specs.Refusals.{IsRefused}
 use Rattle.role_order.specs.Graph.{Graph}
 use Rattle.role_order.specs.Lists.{Each}
 use Rattle.role_order.specs.Names.{texts}
@@ -58,6 +60,16 @@ IsTextFault names text number (TooMany at) = ⊥
 IsTextFault names text number (UnknownRole at) = ⊥
 IsTextFault names text number (Order error) = ⊥
 IsTextFault names text number Unended = ⊥
+
+-- the role order is refused so
+abbrev pub IsOrderTold : List (List ℕ) → List (ℕ × ℕ) → RunError → Type 0
+IsOrderTold names edges (Order error) = IsRefused names edges error × (¬ (error ≡ refusals.Memory))
+IsOrderTold names edges Memory = Unit {0}
+IsOrderTold names edges (BadLine at) = ⊥
+IsOrderTold names edges (TooMany at) = ⊥
+IsOrderTold names edges (UnknownRole at) = ⊥
+IsOrderTold names edges (Cond at error) = ⊥
+IsOrderTold names edges Unended = ⊥
 
 -- the line has a form, which makes the run the next
 pub record AddsLine (run : RunValue) (line : List ℕ) (next : RunValue) : Type 0 where

@@ -5,9 +5,11 @@ mod body;
 mod line;
 mod lines;
 mod listing;
+mod reading;
 mod run;
 mod run_error;
 
+pub use reading::read_run;
 pub use run::Run;
 pub use run_error::RunError;
 
