@@ -62,10 +62,11 @@ sign_lacks true a b h k = h
 sign_lacks false a b h k = k
 
 range_lacks : (r : NamedRange) → IsNamedRange r → Lacks 32 (spell_range r)
-range_lacks r h =
-    (sign_lacks r.low_open 40 91 refl refl,
-    lacks_append 32 r.low (44 ∷ (r.high ++ ((cond r.high_open 41 93) ∷ []))) (name_lacks 32 r.low refl h.0)
-    (refl, lacks_append 32 r.high ((cond r.high_open 41 93) ∷ []) (name_lacks 32 r.high refl h.1) (sign_lacks r.high_open 41 93 refl refl, tt)))
+range_lacks r h = (
+  sign_lacks r.low_open 40 91 refl refl,
+  lacks_append 32 r.low (44 ∷ (r.high ++ ((cond r.high_open 41 93) ∷ []))) (name_lacks 32 r.low refl h.0)
+      (refl, lacks_append 32 r.high ((cond r.high_open 41 93) ∷ []) (name_lacks 32 r.high refl h.1) (sign_lacks r.high_open 41 93 refl refl, tt)),
+)
 
 role_found : (name : List ℕ) → IsName name → role_in name ≡ Some (a_role name)
 unfolding role_in

@@ -8,3 +8,4 @@ pub mod RunLemmas
 pub mod UserLemmas
 pub mod SoleLemmas
 pub mod ClashLemmas
+pub mod ReadLemmas

@@ -129,9 +129,11 @@ edge_is rest shape e =
     let s = named words.0.0 senior.0 senior.1 in
     let j = named words.0.1 junior.0 junior.1 in
     let same = same_some (an_edge senior.0 junior.0) shape junior.2 in
-    subst (Spells (codes "edge " ++ rest)) same ((s.0, j.0),
-    ap (λ t. codes "edge " ++ (t ++ (32 ∷ junior.0))) s.1 ∙ ap (λ t. codes "edge " ++ (words.0.0 ++ (32 ∷ t))) j.1
-    ∙ ap (λ t. codes "edge " ++ t) (cut_is 32 rest words.0 words.1))
+    subst (Spells (codes "edge " ++ rest)) same (
+      (s.0, j.0),
+      ap (λ t. codes "edge " ++ (t ++ (32 ∷ junior.0))) s.1 ∙ ap (λ t. codes "edge " ++ (words.0.0 ++ (32 ∷ t))) j.1
+          ∙ ap (λ t. codes "edge " ++ t) (cut_is 32 rest words.0 words.1),
+    )
 
 assign_is : (rest : List ℕ) (shape : Shape) → assign_in rest ≡ Some shape → Spells (codes "assign " ++ rest) shape
 unfolding assign_in spell
@@ -145,12 +147,14 @@ assign_is rest shape e =
     let r = ranged second.0.0 range.0 range.1 in
     let c = a_text second.0.1 condition.0 condition.1 in
     let same = same_some (an_assign admin.0 range.0 condition.0) shape condition.2 in
-    subst (Spells (codes "assign " ++ rest)) same ((a.0, r.0, c.0),
-    ap (λ t. codes "assign " ++ (t ++ (32 ∷ (spell_range range.0 ++ (32 ∷ condition.0))))) a.1
-    ∙ ap (λ t. codes "assign " ++ (first.0.0 ++ (32 ∷ (t ++ (32 ∷ condition.0))))) r.1
-    ∙ ap (λ t. codes "assign " ++ (first.0.0 ++ (32 ∷ (second.0.0 ++ (32 ∷ t))))) c.1
-    ∙ ap (λ t. codes "assign " ++ (first.0.0 ++ (32 ∷ t))) (cut_is 32 first.0.1 second.0 second.1)
-    ∙ ap (λ t. codes "assign " ++ t) (cut_is 32 rest first.0 first.1))
+    subst (Spells (codes "assign " ++ rest)) same (
+      (a.0, r.0, c.0),
+      ap (λ t. codes "assign " ++ (t ++ (32 ∷ (spell_range range.0 ++ (32 ∷ condition.0))))) a.1
+          ∙ ap (λ t. codes "assign " ++ (first.0.0 ++ (32 ∷ (t ++ (32 ∷ condition.0))))) r.1
+          ∙ ap (λ t. codes "assign " ++ (first.0.0 ++ (32 ∷ (second.0.0 ++ (32 ∷ t))))) c.1
+          ∙ ap (λ t. codes "assign " ++ (first.0.0 ++ (32 ∷ t))) (cut_is 32 first.0.1 second.0 second.1)
+          ∙ ap (λ t. codes "assign " ++ t) (cut_is 32 rest first.0 first.1),
+    )
 
 revoke_is : (rest : List ℕ) (shape : Shape) → revoke_in rest ≡ Some shape → Spells (codes "revoke " ++ rest) shape
 unfolding revoke_in spell
@@ -161,9 +165,11 @@ revoke_is rest shape e =
     let a = named first.0.0 admin.0 admin.1 in
     let r = ranged first.0.1 range.0 range.1 in
     let same = same_some (a_revoke admin.0 range.0) shape range.2 in
-    subst (Spells (codes "revoke " ++ rest)) same ((a.0, r.0),
-    ap (λ t. codes "revoke " ++ (t ++ (32 ∷ spell_range range.0))) a.1 ∙ ap (λ t. codes "revoke " ++ (first.0.0 ++ (32 ∷ t))) r.1
-    ∙ ap (λ t. codes "revoke " ++ t) (cut_is 32 rest first.0 first.1))
+    subst (Spells (codes "revoke " ++ rest)) same (
+      (a.0, r.0),
+      ap (λ t. codes "revoke " ++ (t ++ (32 ∷ spell_range range.0))) a.1 ∙ ap (λ t. codes "revoke " ++ (first.0.0 ++ (32 ∷ t))) r.1
+          ∙ ap (λ t. codes "revoke " ++ t) (cut_is 32 rest first.0 first.1),
+    )
 
 -- the words with spaces before them
 in_first_spelled : (b : ℕ) (ws : List (List ℕ)) (bs : List ℕ) → spell_names ws ≡ 32 ∷ bs → spell_names (in_first b ws) ≡ 32 ∷ (b ∷ bs)
@@ -239,14 +245,16 @@ act_is rest shape e =
     let t = number_is third.0.0 target.0 target.1 in
     let r = named third.0.1 role.0 role.1 in
     let same = same_some (an_act kind.0 admin.0 target.0 role.0) shape role.2 in
-    subst (Spells (codes "act " ++ rest)) same ((a.0, t.0, r.0),
-    ap (λ x. codes "act " ++ (x ++ (32 ∷ (decimal admin.0 ++ (32 ∷ (decimal target.0 ++ (32 ∷ role.0))))))) (sym (kind_is first.0.0 kind.0 kind.1))
-    ∙ ap (λ x. codes "act " ++ (first.0.0 ++ (32 ∷ (x ++ (32 ∷ (decimal target.0 ++ (32 ∷ role.0))))))) a.1
-    ∙ ap (λ x. codes "act " ++ (first.0.0 ++ (32 ∷ (second.0.0 ++ (32 ∷ (x ++ (32 ∷ role.0))))))) t.1
-    ∙ ap (λ x. codes "act " ++ (first.0.0 ++ (32 ∷ (second.0.0 ++ (32 ∷ (third.0.0 ++ (32 ∷ x))))))) r.1
-    ∙ ap (λ x. codes "act " ++ (first.0.0 ++ (32 ∷ (second.0.0 ++ (32 ∷ x))))) (cut_is 32 second.0.1 third.0 third.1)
-    ∙ ap (λ x. codes "act " ++ (first.0.0 ++ (32 ∷ x))) (cut_is 32 first.0.1 second.0 second.1)
-    ∙ ap (λ x. codes "act " ++ x) (cut_is 32 rest first.0 first.1))
+    subst (Spells (codes "act " ++ rest)) same (
+      (a.0, t.0, r.0),
+      ap (λ x. codes "act " ++ (x ++ (32 ∷ (decimal admin.0 ++ (32 ∷ (decimal target.0 ++ (32 ∷ role.0))))))) (sym (kind_is first.0.0 kind.0 kind.1))
+          ∙ ap (λ x. codes "act " ++ (first.0.0 ++ (32 ∷ (x ++ (32 ∷ (decimal target.0 ++ (32 ∷ role.0))))))) a.1
+          ∙ ap (λ x. codes "act " ++ (first.0.0 ++ (32 ∷ (second.0.0 ++ (32 ∷ (x ++ (32 ∷ role.0))))))) t.1
+          ∙ ap (λ x. codes "act " ++ (first.0.0 ++ (32 ∷ (second.0.0 ++ (32 ∷ (third.0.0 ++ (32 ∷ x))))))) r.1
+          ∙ ap (λ x. codes "act " ++ (first.0.0 ++ (32 ∷ (second.0.0 ++ (32 ∷ x))))) (cut_is 32 second.0.1 third.0 third.1)
+          ∙ ap (λ x. codes "act " ++ (first.0.0 ++ (32 ∷ x))) (cut_is 32 first.0.1 second.0 second.1)
+          ∙ ap (λ x. codes "act " ++ x) (cut_is 32 rest first.0 first.1),
+    )
 
 goal_is : (rest : List ℕ) (shape : Shape) → goal_in rest ≡ Some shape → Spells (codes "goal " ++ rest) shape
 unfolding goal_in spell

@@ -227,9 +227,9 @@ pub late_line : (n : ℕ) (rest line later : List ℕ) → cut 10 rest ≡ Some 
 late_line n rest line later c fresh t z = let f = begins_line rest line later c (fresh z) in absurd (cc)
 
 -- the last line, and nothing behind it
-pub ends_here : (run last : RunValue) (text rest line later : List ℕ) (number at : ℕ) → Passes run text number last rest at → cut 10 rest ≡ Some (line, later)
+pub ends_here : (run last : RunValue) (text rest line later : List ℕ) (number at : ℕ) → Passes run text number last rest at → IsOrder last.names last.edges → cut 10 rest ≡ Some (line, later)
     → (bytes_eq line (codes "end") && not (eqb (length last.goal) 0)) ≡ true → eqb (length later) 0 ≡ true → EndsWith run text number last
-ends_here run last text rest line later number at p c e n =
+ends_here run last text rest line later number at p o c e n =
     let l = is_last line (length last.goal) e in
     let none = split_empty later (eqb-true (length later) 0 n) in
     record {
@@ -237,6 +237,7 @@ ends_here run last text rest line later number at p c e n =
       at = at;
       passed = p;
       end = split_first rest line later c ∙ ap (λ (t : List ℕ). (t ∷ (split later).0, (split later).1)) l.0 ∙ ap (λ (s : List (List ℕ) × List ℕ). (codes "end" ∷ s.0, s.1)) none;
+      order = o;
       goal = some (length last.goal) l.1;
     }
   where
@@ -245,9 +246,9 @@ ends_here run last text rest line later number at p c e n =
     some (suc n) h = omega arith
 
 -- the last line, and more behind it
-pub goes_on : (run last : RunValue) (text rest line later : List ℕ) (number at : ℕ) → Passes run text number last rest at → cut 10 rest ≡ Some (line, later)
+pub goes_on : (run last : RunValue) (text rest line later : List ℕ) (number at : ℕ) → Passes run text number last rest at → IsOrder last.names last.edges → cut 10 rest ≡ Some (line, later)
     → (bytes_eq line (codes "end") && not (eqb (length last.goal) 0)) ≡ true → eqb (length later) 0 ≡ false → GoesOn run text number (at + 1)
-goes_on run last text rest line later number at p c e n =
+goes_on run last text rest line later number at p o c e n =
     let l = is_last line (length last.goal) e in
     record {
       last = last;
@@ -256,10 +257,11 @@ goes_on run last text rest line later number at p c e n =
       later = later;
       passed = p;
       end = split_first rest line later c ∙ ap (λ (t : List ℕ). (t ∷ (split later).0, (split later).1)) l.0;
+      order = o;
       goal = l.1;
       more = λ h. let z : eqb (length later) 0 ≡ true = eq-eqb (length later) 0 (nothing_left later h.0 h.1) in absurd (cc);
       next_is = refl;
     }
 
-pub has_no_end : (run last : RunValue) (text rest : List ℕ) (number at : ℕ) → Passes run text number last rest at → cut 10 rest ≡ None → HasNoEnd run text number
-has_no_end run last text rest number at p c = record { last = last; rest = rest; at = at; passed = p; none = ap (λ (s : List (List ℕ) × List ℕ). s.0) (split_none rest c) }
+pub has_no_end : (run last : RunValue) (text rest : List ℕ) (number at : ℕ) → Passes run text number last rest at → IsOrder last.names last.edges → cut 10 rest ≡ None → HasNoEnd run text number
+has_no_end run last text rest number at p o c = record { last = last; rest = rest; at = at; passed = p; order = o; none = ap (λ (s : List (List ℕ) × List ℕ). s.0) (split_none rest c) }

@@ -1,7 +1,7 @@
 -- What one line does behind what was read so far, as the private functions say it.
 use Rattle.std.specs.Prelude.{ℕ, ◌≡◌, List, [], ◌∷◌, ◌++◌, ◌+◌, ◌≤◌, ◌⊎◌, map, length, true, codes}
 use Rattle.role_order.specs.declared.order.OrderError.TheVariants as refusals
-use Rattle.role_order.specs.Refusals.{IsRefused}
+use Rattle.role_order.specs.Refusals.{IsOrder, IsRefused}
 use Rattle.role_order.specs.Graph.{Graph}
 use Rattle.role_order.specs.Lists.{Each}
 use Rattle.role_order.specs.Names.{texts}
@@ -104,6 +104,7 @@ pub record EndsWith (run : RunValue) (text : List ℕ) (number : ℕ) (last : Ru
   pub at : ℕ
   pub passed : Passes run text number last rest at
   pub end : split rest ≡ (codes "end" ∷ [], [])
+  pub order : IsOrder last.names last.edges
   pub goal : 1 ≤ length last.goal
 
 -- right lines lead to a line `end` behind a goal, and then the text goes on at the next line
@@ -114,6 +115,7 @@ pub record GoesOn (run : RunValue) (text : List ℕ) (number : ℕ) (next : ℕ)
   pub later : List ℕ
   pub passed : Passes run text number last rest at
   pub end : split rest ≡ (codes "end" ∷ (split later).0, (split later).1)
+  pub order : IsOrder last.names last.edges
   pub goal : ¬ (length last.goal ≡ 0)
   pub more : ¬ (((split later).0 ≡ []) × ((split later).1 ≡ []))
   pub next_is : next ≡ at + 1
@@ -124,6 +126,7 @@ pub record HasNoEnd (run : RunValue) (text : List ℕ) (number : ℕ) : Type 0 w
   pub rest : List ℕ
   pub at : ℕ
   pub passed : Passes run text number last rest at
+  pub order : IsOrder last.names last.edges
   pub none : (split rest).0 ≡ []
 
 -- behind the role order the text is at fault so

@@ -290,12 +290,7 @@ impl Body {
 }
 
 /// Reads the lines behind those of the role order, of which the first has the number.
-pub fn read_body(
-    alloc: Global,
-    order: &Order,
-    text: &[u8],
-    first: u32,
-) -> Result<Body, RunError>
+pub fn read_body(alloc: Global, order: &Order, text: &[u8], first: u32) -> Result<Body, RunError>
     requires short { length text.now + first + 1 < 2 ^ 32 }
     requires order { IsOrder order.now.names order.now.edges }
     requires ends { EndsOrder (split text.now).0 }

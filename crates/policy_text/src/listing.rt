@@ -134,6 +134,7 @@ pub struct Listed<'a> {
 pub fn read_listing(alloc: Global, text: &[u8]) -> Result<Listed, RunError>
     requires { length text.now + 3 < 2 ^ 32 }
     ensures read { IfOk result (λ listed. Passes nothing text.now 2 (listing_view listed.listing) listed.rest.now listed.number) }
+    ensures room { IfOk result (λ listed. listed.number + length listed.rest.now ≤ 2 + length text.now) }
     ensures ends { IfOk result (λ listed. EndsOrder (split listed.rest.now).0) }
     ensures fault { IfErr result (λ e. Told e (StopsAt nothing text.now 2 e)) }
 {

@@ -35,12 +35,7 @@ fn order_of(alloc: Global, listing: Listing) -> Result<Order, RunError>
 }
 
 /// The policy of these rules for users, without rules for permissions and without exclusive pairs.
-fn policy_of(
-    alloc: Global,
-    order: Order,
-    assign: Vec<CanAssign>,
-    revoke: Vec<CanRevoke>,
-) -> Policy
+fn policy_of(alloc: Global, order: Order, assign: Vec<CanAssign>, revoke: Vec<CanRevoke>) -> Policy
     requires known { IsPolicy (rules_of order assign.items revoke.items [] [] []) }
     requires few { AreCountable (rules_of order assign.items revoke.items [] [] []) }
     ensures { result ≡ rules_of order assign.items revoke.items [] [] [] }

@@ -9,12 +9,12 @@ use Rattle.policy_text.proofs.body.read_body.Goals as goal
 pub returns-then-is_empty-clause-read : goal.returns-then-is_empty-clause-read
 returns-then-is_empty-clause-read c =
     ends_here (order_view c.args.order.now) (run_view c.args.order.now c.loop-line.body) c.args.text.now c.loop-line.rest.now c.in-Some.line.now c.in-Some.after.now c.args.first c.loop-line.number
-    c.loop-line.invariant.passed (sym c.in-Some.ensures) (sym c.ends.ensures ∙ c.if-ends.true) (sym c.is_empty.ensures ∙ c.if-is_empty.true)
+    c.loop-line.invariant.passed c.requires.order (sym c.in-Some.ensures) (sym c.ends.ensures ∙ c.if-ends.true) (sym c.is_empty.ensures ∙ c.if-is_empty.true)
 
 pub returns-then-ends-clause-fault : goal.returns-then-ends-clause-fault
 returns-then-ends-clause-fault c =
     inr (goes_on (order_view c.args.order.now) (run_view c.args.order.now c.loop-line.body) c.args.text.now c.loop-line.rest.now c.in-Some.line.now c.in-Some.after.now c.args.first c.loop-line.number
-    c.loop-line.invariant.passed (sym c.in-Some.ensures) (sym c.ends.ensures ∙ c.if-ends.true) (sym c.is_empty.ensures ∙ c.if-is_empty.false))
+    c.loop-line.invariant.passed c.requires.order (sym c.in-Some.ensures) (sym c.ends.ensures ∙ c.if-ends.true) (sym c.is_empty.ensures ∙ c.if-is_empty.false))
 
 pub add_line-requires-clause-short : goal.add_line-requires-clause-short
 add_line-requires-clause-short c =
@@ -47,4 +47,4 @@ loop-line-preserved c =
 
 pub returns-clause-fault : goal.returns-clause-fault
 returns-clause-fault c =
-    has_no_end (order_view c.args.order.now) (run_view c.args.order.now c.loop-line.body) c.args.text.now c.loop-line.rest.now c.args.first c.loop-line.number c.loop-line.invariant.passed (sym c.in_default.ensures)
+    has_no_end (order_view c.args.order.now) (run_view c.args.order.now c.loop-line.body) c.args.text.now c.loop-line.rest.now c.args.first c.loop-line.number c.loop-line.invariant.passed c.requires.order (sym c.in_default.ensures)

@@ -9,7 +9,11 @@ pub returns-clause-added : goal.returns-clause-added
 returns-clause-added c = record {
   place = search rules;
   room = omega (arith, map_long plain_rule c.args.self.now.assign.items, c.args.self.now.assign.ok.0, c.len.ensures);
-  gains =
-      (plain_rule (record { admin = c.in-Some.admin; cond = c.in_ok-cond.cond; range = c.in-Some-range_of.range }), sym c.in-Some.ensures.place, c.in-Some-range_of.ensures.some, c.in_ok-cond.ensures.says,
-      ap (λ (t : List AssignRule). record (run_view c.args.order.now c.args.self.now) { assign = t }) (map-pushed plain_rule _ _ _ c.in_ok-push.ensures.items));
+  gains = (
+    plain_rule (record { admin = c.in-Some.admin; cond = c.in_ok-cond.cond; range = c.in-Some-range_of.range }),
+    sym c.in-Some.ensures.place,
+    c.in-Some-range_of.ensures.some,
+    c.in_ok-cond.ensures.says,
+    ap (λ (t : List AssignRule). record (run_view c.args.order.now c.args.self.now) { assign = t }) (map-pushed plain_rule _ _ _ c.in_ok-push.ensures.items),
+  );
 }
