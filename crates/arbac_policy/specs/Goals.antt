@@ -1,5 +1,5 @@
 -- Drawn populations, goals, and what can be reached.
-use Rattle.std.specs.Prelude.{ℕ, ◌≡◌, ◌≤◌, ◌+◌, ◌==◌, if◌then◌else◌, List, [], ◌∷◌, slice_get, Option, Some}
+use Rattle.std.specs.Prelude.{ℕ, ◌≡◌, ◌≤◌, ◌+◌, ◌==◌, if◌then◌else◌, List, [], ◌∷◌, slice_get, Some}
 use Rattle.arbac_policy.specs.declared.profile.Profile.{Profile}
 use Rattle.arbac_policy.specs.declared.act.Act.{Act}
 use Rattle.arbac_policy.specs.Truth.{Term, user, Satisfies}

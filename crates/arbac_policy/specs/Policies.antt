@@ -1,5 +1,4 @@
 -- What a kept policy is seen as.
-use Rattle.std.specs.Prelude.{List}
 use Rattle.arbac_policy.specs.declared.policy.Policy.TheInside.{Inside}
 use Rattle.arbac_policy.specs.Rules.{Rules}
 

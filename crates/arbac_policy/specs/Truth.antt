@@ -1,5 +1,5 @@
 -- Membership, and when a condition is true of a set.
-use Rattle.std.specs.Prelude.{ℕ, ◌≡◌, ◌<◌, List, ◌⊎◌}
+use Rattle.std.specs.Prelude.{ℕ, ◌<◌, List, ◌⊎◌}
 use Rattle.role_order.specs.Roles.{IsIn}
 use Rattle.role_order.specs.Graph.{Leads}
 use Rattle.arbac_policy.specs.declared.cond.Cond.{Cond, fold-Cond}

@@ -7,6 +7,8 @@ mod holder;
 mod policy;
 mod profile;
 mod rule;
+#[cfg(test)]
+mod tests;
 mod truth;
 mod verdict;
 

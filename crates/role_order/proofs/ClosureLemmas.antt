@@ -1,17 +1,17 @@
 -- The table of the roles above each role, edge by edge.
-use Rattle.std.proofs.Common.{ℕ, ◌≡◌, ◌<◌, ◌≤◌, ◌+◌, List, [], ◌∷◌, ◌++◌, length, get_or, take, drop, arith, zero, suc, sym, ◌∙◌, ap, eqb, Bool, true, false, ◌||◌, ◌&&◌, not, cond, subst, refl, inl, inr, map, Some, None, append-nil}
+use Rattle.std.proofs.Common.{ℕ, ◌≡◌, ◌<◌, ◌≤◌, ◌+◌, List, [], ◌∷◌, ◌++◌, length, get_or, take, drop, arith, zero, suc, sym, ◌∙◌, ap, eqb, Bool, true, false, ◌||◌, ◌&&◌, not, cond, subst, refl, inl, inr, map, Some, append-nil}
 use Rattle.std.specs.Prelude.{◌⊎◌, ◌↔◌, slice_get, slice_set}
 use Rattle.std.proofs.lemmas.Bool.{eqb-true, eq-eqb, false≢true}
 use Rattle.std.proofs.lemmas.Bool.Decides.{nat_tests}
 use Rattle.role_order.specs.Lists.{Each}
 use Rattle.role_order.specs.Roles.{has_role, with_role, join_roles, IsIn, Rises}
-use Rattle.role_order.specs.Graph.{Graph, Leads, here, AreEdges, IsEdge, IsCycle, AreAcyclic, turned}
+use Rattle.role_order.specs.Graph.{Graph, Leads, here, AreEdges, IsCycle, AreAcyclic, turned}
 use Rattle.role_order.specs.Refusals.{IsOrder}
 use Rattle.role_order.specs.Closures.{AreAbove, raised, raised_set}
 use Rattle.role_order.specs.Reach.{seniors_of, juniors_of}
-use Rattle.role_order.proofs.ListLemmas.{get_within, get_at, get_taken, get_take, each_at, take_all, get_last, take_one_more}
-use Rattle.role_order.proofs.SetLemmas.{or_cases, or_right, and_both, both_true, has_role-with_role, has_role-join_roles, rises-join_roles, same_test, same_set}
-use Rattle.role_order.proofs.ReachLemmas.{Leads-join, leads_still, leads_split, leads_through, leads_from_none, leads_turned, leads_back, turned_twice, in_seniors, in_juniors, rises_seniors, rises_juniors, leads_to_below}
+use Rattle.role_order.proofs.ListLemmas.{get_within, get_at, get_taken, each_at, take_all, get_last, take_one_more}
+use Rattle.role_order.proofs.SetLemmas.{or_cases, or_right, has_role-with_role, has_role-join_roles, rises-join_roles, same_test, same_set}
+use Rattle.role_order.proofs.ReachLemmas.{Leads-join, leads_still, leads_split, leads_through, leads_from_none, leads_back, in_seniors, in_juniors, rises_seniors, rises_juniors, leads_to_below}
 
 -- a list that was mapped up to a place, with the item there mapped too
 pub mapped_step : {A : Type 0} (f : A → A) (xs ys : List A) (i : ℕ) (d : A) → i < length xs → ys ≡ map f (take i xs) ++ drop i xs

@@ -1,7 +1,7 @@
 -- Each item of a list, and the items at places.
 use Rattle.std.proofs.lemmas.Bool.{eqb-true}
 use Rattle.std.proofs.lemmas.Bool.Decides.{nat_tests}
-use Rattle.std.proofs.Common.{ℕ, ◌≡◌, ◌<◌, ◌≤◌, ◌+◌, Bool, true, false, eqb, List, [], ◌∷◌, length, get_or, take, refl, arith, zero, suc, sym, subst, ap, ◌∙◌, ◌++◌, inl, inr, Some, None}
+use Rattle.std.proofs.Common.{ℕ, ◌≡◌, ◌<◌, ◌≤◌, ◌+◌, Bool, true, false, eqb, List, [], ◌∷◌, length, get_or, take, refl, arith, zero, suc, sym, subst, ap, ◌∙◌, ◌++◌, inl, inr, Some}
 use Rattle.std.specs.Prelude.{slice_get, Contains, ◌⊎◌}
 use Rattle.role_order.specs.Lists.{Each, Some_of}
 

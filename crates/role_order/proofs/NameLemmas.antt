@@ -1,5 +1,5 @@
 -- Steps of loops over names.
-use Rattle.std.proofs.Common.{ℕ, ◌≡◌, ◌+◌, ◌<◌, ◌≤◌, Bool, true, false, cond, List, [], ◌∷◌, ◌++◌, length, get_or, take, drop, refl, arith, zero, suc, ap, sym, ◌∙◌, Option, Some, None, subst, inl, inr}
+use Rattle.std.proofs.Common.{ℕ, ◌≡◌, ◌+◌, ◌<◌, ◌≤◌, Bool, true, false, cond, List, [], ◌∷◌, ◌++◌, length, get_or, take, drop, refl, arith, zero, suc, ap, sym, ◌∙◌, Some, None, subst, inl, inr}
 use Rattle.std.specs.Prelude.{String, slice_get, position, not, nat_lt, ◌⊎◌}
 use Rattle.std.specs.List.{prefix_len}
 use Rattle.std.specs.Str.{bytes_eq}

@@ -2,11 +2,11 @@
 use Rattle.std.proofs.Common.{ℕ, ◌≡◌, ◌+◌, ◌<◌, ◌≤◌, Bool, true, false, not, ◌||◌, ◌&&◌, cond, eqb, ltb, List, [], ◌∷◌, length, get_or, set, refl, arith, zero, suc, ap, sym, ◌∙◌}
 use Rattle.std.specs.Prelude.{filter}
 use Rattle.std.specs.List.{list_any, list_all}
-use Rattle.std.proofs.lemmas.Bool.{ne_eqb, eq-eqb}
+use Rattle.std.proofs.lemmas.Bool.{ne_eqb, eq-eqb, false≢true}
 use Rattle.std.proofs.lemmas.Bool.Decides.{nat_tests}
-use Rattle.role_order.specs.Roles.{has_role, with_role, without_role, less_roles, is_within, have_common, join_roles, Rises}
 use Rattle.role_order.specs.Lists.{Each}
-use Rattle.role_order.specs.Places.{places, row, has_role-places_below}
+use Rattle.role_order.specs.Roles.{has_role, with_role, without_role, join_roles, IsIn, Rises, IsRoleSet}
+use Rattle.role_order.specs.Places.{places, has_role-places_below}
 
 pub has_role-places : (at : ℕ) (bs : List Bool) (k : ℕ) → has_role (places at bs) (at + k) ≡ get_or bs k false
 unfolding places
@@ -220,3 +220,15 @@ unfolding places
 rises-places at [] = tt
 rises-places at (false ∷ bs) = rises-places (at + 1) bs
 rises-places at (true ∷ bs) = (places_from at (at + 1) bs (omega arith), rises-places (at + 1) bs)
+
+below-places : (bs : List Bool) (role : ℕ) → IsIn (places 0 bs) role → role < length bs
+below-places bs role h = by_length (ltb role (length bs)) refl
+  where
+    by_length : (t : Bool) → ltb role (length bs) ≡ t → role < length bs
+    by_length true e = grind (arith, nat_tests)
+    by_length false e =
+        let past : length bs ≤ role = grind (arith, nat_tests) in
+        absurd (false≢true (sym (get_or_past bs role past) ∙ sym (has_role-places_0 bs role) ∙ h))
+
+pub role_set_of : (bs : List Bool) → length bs ≡ 250 → IsRoleSet (places 0 bs)
+role_set_of bs e = record { rises = rises-places 0 bs; below = λ role h. omega (arith, below-places bs role h) }

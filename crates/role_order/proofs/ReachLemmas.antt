@@ -1,12 +1,12 @@
 -- What leads where, with one more edge, by the computed seniors, and in the turned order.
-use Rattle.std.proofs.Common.{ℕ, ◌≡◌, ◌<◌, ◌+◌, List, [], ◌∷◌, ◌++◌, length, get_or, take, arith, zero, suc, sym, ◌∙◌, ap, eqb, Bool, true, false, ◌||◌, ◌&&◌, subst, refl, inl, inr, map, Some, None}
-use Rattle.std.specs.Prelude.{◌⊎◌, ◌↔◌, filter, Contains, slice_get}
+use Rattle.std.proofs.Common.{ℕ, ◌≡◌, ◌<◌, List, [], ◌∷◌, ◌++◌, length, get_or, arith, zero, suc, sym, ◌∙◌, ap, eqb, Bool, true, false, ◌||◌, ◌&&◌, subst, refl, inl, inr, map}
+use Rattle.std.specs.Prelude.{◌⊎◌, ◌↔◌, filter, Contains}
 use Rattle.std.proofs.lemmas.Bool.{eqb-true, eq-eqb}
 use Rattle.std.proofs.lemmas.Bool.Decides.{nat_tests}
 use Rattle.role_order.specs.Roles.{has_role, with_role, IsIn, Rises}
-use Rattle.role_order.specs.Graph.{Graph, Leads, here, down, AreEdges, IsEdge, turned, AreAcyclic}
+use Rattle.role_order.specs.Graph.{Graph, Leads, here, down, AreEdges, IsEdge, turned}
 use Rattle.role_order.specs.Reach.{is_edge, leads_by, seniors_of, juniors_of, count_up}
-use Rattle.role_order.proofs.ListLemmas.{get_within, get_at, contains_at, at_contains, each_at}
+use Rattle.role_order.proofs.ListLemmas.{at_contains, each_at}
 use Rattle.role_order.proofs.SetLemmas.{or_cases, or_right, and_both, both_true, has_role-with_role, has_role-filter, has_role-count_up, rises-with_role, rises-filter, rises-count_up}
 
 pub Leads-join : {edges : List (ℕ × ℕ)} {x y : ℕ} → Leads edges x y → (z : ℕ) → Leads edges y z → Leads edges x z

@@ -1,10 +1,10 @@
 -- What is in a set after a change, and sets that have the same roles.
-use Rattle.std.proofs.Common.{ℕ, ◌≡◌, ◌+◌, ◌<◌, ◌≤◌, Bool, true, false, not, ◌||◌, ◌&&◌, cond, eqb, ltb, List, [], ◌∷◌, refl, arith, zero, suc, ap, sym, ◌∙◌, subst, inl, inr}
+use Rattle.std.proofs.Common.{ℕ, ◌≡◌, ◌+◌, ◌<◌, ◌≤◌, Bool, true, false, ◌||◌, ◌&&◌, cond, eqb, ltb, List, [], ◌∷◌, refl, arith, zero, suc, ap, sym, ◌∙◌, subst, inl, inr}
 use Rattle.std.specs.Prelude.{◌==◌, ◌⊎◌, filter}
 use Rattle.std.proofs.lemmas.Bool.{ne_eqb, eq-eqb, eqb-true, false≢true}
 use Rattle.std.proofs.lemmas.Bool.Decides.{nat_tests}
 use Rattle.role_order.specs.Lists.{Each}
-use Rattle.role_order.specs.Roles.{has_role, with_role, without_role, join_roles, IsIn, Rises, AreBelow}
+use Rattle.role_order.specs.Roles.{has_role, with_role, join_roles, Rises}
 use Rattle.role_order.specs.Reach.{count_up}
 
 -- two tests that pass together are equal

@@ -1,5 +1,5 @@
 -- Tables of the roles above each role.
-use Rattle.std.specs.Prelude.{ℕ, ◌≡◌, ◌<◌, ◌&&◌, not, if◌then◌else◌, List, [], ◌∷◌, ◌↔◌, length, map, get_or, slice_get, Some, Vec}
+use Rattle.std.specs.Prelude.{ℕ, ◌≡◌, ◌&&◌, not, if◌then◌else◌, List, [], ◌↔◌, length, map, get_or, slice_get, Some}
 use Rattle.role_order.specs.Lists.{Each}
 use Rattle.role_order.specs.Roles.{has_role, join_roles, IsIn, Rises}
 use Rattle.role_order.specs.Graph.{Leads}

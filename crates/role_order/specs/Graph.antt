@@ -1,5 +1,5 @@
 -- A role order: the names of its roles and its written edges.
-use Rattle.std.specs.Prelude.{ℕ, ◌≡◌, ◌<◌, List, Contains, map, slice_get, Some, take}
+use Rattle.std.specs.Prelude.{ℕ, ◌≡◌, ◌<◌, List, Contains, slice_get, Some, take}
 use Rattle.role_order.specs.Lists.{Each}
 
 -- roles are numbers from 0 in the order of the names; an edge is a pair (senior, junior)

@@ -1,6 +1,6 @@
 -- A row of truth values as the list of the places that are true.
-use Rattle.std.specs.Prelude.{ℕ, ◌≡◌, ◌+◌, ◌-◌, ◌<◌, ◌≤◌, Bool, true, false, ◌==◌, ◌||◌, if◌then◌else◌, List, [], ◌∷◌, length, refl}
-use Rattle.std.proofs.Common.{arith, zero, suc, ap, ◌∙◌, sym, eqb}
+use Rattle.std.specs.Prelude.{ℕ, ◌≡◌, ◌+◌, ◌<◌, Bool, true, false, if◌then◌else◌, List, [], ◌∷◌, length, refl}
+use Rattle.std.proofs.Common.{arith, zero, suc, ap, eqb}
 use Rattle.std.proofs.lemmas.Bool.{ne_eqb, eq-eqb}
 use Rattle.role_order.specs.Roles.{has_role}
 

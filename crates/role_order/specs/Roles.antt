@@ -2,6 +2,7 @@
 use Rattle.std.specs.Prelude.{ℕ, ◌≡◌, ◌<◌, Bool, true, false, not, ◌==◌, ◌||◌, nat_lt, if◌then◌else◌, List, [], ◌∷◌, filter}
 use Rattle.std.specs.List.{list_any, list_all}
 use Rattle.role_order.specs.Lists.{Each}
+use Rattle.role_order.specs.declared.TheConstants.{MOST_ROLES}
 
 -- whether the role is in the set
 abbrev pub has_role : List ℕ → ℕ → Bool
@@ -63,3 +64,8 @@ AreBelow count set = (role : ℕ) → IsIn set role → role < count
 abbrev pub Rises : List ℕ → Type 0
 Rises [] = Unit {0}
 Rises (x ∷ xs) = Each (λ y. x < y) xs × Rises xs
+
+-- the list of a role set: it rises strictly, and each role is below 250
+pub record IsRoleSet (set : List ℕ) : Type 0 where
+  pub rises : Rises set
+  pub below : AreBelow MOST_ROLES set

@@ -44,14 +44,12 @@ fn lone_roles(alloc: Global, count: u16) -> Result<Vec<RoleSet>, AllocError>
     Ok(above)
 }
 
-/// The set with what is above the senior, where it has the junior and not yet the senior.
-fn raise(set: &RoleSet, seniors: &RoleSet, senior: u16, junior: u16) -> RoleSet
-    ensures { result ≡ raised_set seniors.now senior junior set.now }
+/// Puts what is above the senior into the set, where it has the junior and not yet the senior.
+fn raise(set: &mut RoleSet, seniors: &RoleSet, senior: u16, junior: u16)
+    ensures { set.new ≡ raised_set seniors.now senior junior set.old }
 {
     if set.has(junior) && !set.has(senior) {
-        set.join(seniors)
-    } else {
-        *set
+        *set = set.join(seniors);
     }
 }
 
@@ -62,7 +60,7 @@ fn add_edge(above: &mut Vec<RoleSet>, senior: u16, junior: u16)
 {
     let seniors = above[senior as usize];
     for set in above.iter_mut() {
-        *set = raise(set, &seniors, senior, junior);
+        raise(set, &seniors, senior, junior);
     }
 }
 

@@ -6,6 +6,8 @@ mod names;
 mod order;
 mod range;
 mod role_set;
+#[cfg(test)]
+mod tests;
 
 pub use order::{Order, OrderError};
 pub use range::Range;

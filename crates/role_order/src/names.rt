@@ -36,18 +36,18 @@ fn is_role_name(text: &str) -> bool
     1 <= bytes.len() && bytes.len() <= 64 && are_name_bytes(bytes) && !is_reserved(text)
 }
 
-fn position_in(names: &[String], text: &str) -> Option<usize>
-    ensures { result ≡ position (λ name. bytes_eq (string_bytes name) text.now) names.now }
+fn position_in(names: &[String], bytes: &[u8]) -> Option<usize>
+    ensures { result ≡ position (λ name. bytes_eq (string_bytes name) bytes.now) names.now }
 {
-    names.iter().position(|name| name.as_str() == text)
+    names.iter().position(|name| name.as_bytes() == bytes)
 }
 
-/// The place of the first name that equals the text.
-pub fn place_in(names: &[String], text: &str) -> Option<usize>
+/// The place of the first name that has these bytes.
+pub fn place_in(names: &[String], bytes: &[u8]) -> Option<usize>
     ensures within { IfSome result (λ at. at < length names.now) }
-    ensures place { result ≡ place_of (texts names.now) text.now }
+    ensures place { result ≡ place_of (texts names.now) bytes.now }
 {
-    position_in(names, text)
+    position_in(names, bytes)
 }
 
 /// The place of the first text that is no role name.
@@ -71,7 +71,7 @@ pub fn first_repeated(names: &[String]) -> Option<(usize, usize)>
     ensures none { IfNone result (AreDifferent (texts names.now)) }
 {
     for at in 0..names.len() {
-        if let Some(first) = place_in(&names[..at], names[at].as_str()) {
+        if let Some(first) = place_in(&names[..at], names[at].as_bytes()) {
             return Some((first, at));
         }
     }

@@ -206,7 +206,15 @@ impl Order {
         ensures role { IfSome result (λ role. role < length self.now.names) }
         ensures place { result ≡ place_of self.now.names text.now }
     {
-        match place_in(&self.names, text) {
+        self.role_of_bytes(text.as_bytes())
+    }
+
+    /// The role of the name that has these bytes, and none exactly where no name has them.
+    pub fn role_of_bytes(&self, bytes: &[u8]) -> Option<u16>
+        ensures role { IfSome result (λ role. role < length self.now.names) }
+        ensures place { result ≡ place_of self.now.names bytes.now }
+    {
+        match place_in(&self.names, bytes) {
             Some(at) => Some(at as u16),
             None => None,
         }

@@ -1,7 +1,7 @@
 //! Sets of roles.
 
 ghost use Rattle.std.specs.Prelude.{◌≡◌, ◌<◌, [], List};
-ghost use Rattle.role_order.specs.Roles.{has_role, with_role, without_role, less_roles, is_within, have_common, common_roles, join_roles, Rises};
+ghost use Rattle.role_order.specs.Roles.{has_role, with_role, without_role, less_roles, is_within, have_common, common_roles, join_roles, Rises, IsRoleSet};
 
 use crate::MOST_ROLES;
 use std::marker::Model;
@@ -42,7 +42,8 @@ impl RoleSet {
 
     /// Whether the role is in the set.
     pub fn has(&self, role: u16) -> bool
-        ensures { result ≡ has_role self.now role }
+        ensures value { result ≡ has_role self.now role }
+        ensures set { IsRoleSet self.now }
     {
         (role as usize) < MOST_ROLES && self.held[role as usize]
     }

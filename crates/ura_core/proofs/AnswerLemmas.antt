@@ -12,3 +12,7 @@ granted_weaker P Q (Denied part) f h = tt
 pub denied_weaker : (P Q : Part → Type 0) (verdict : Verdict) → ((part : Part) → P part → Q part) → IfDenied verdict P → IfDenied verdict Q
 denied_weaker P Q (Granted set) f h = tt
 denied_weaker P Q (Denied part) f h = f part h
+
+pub granted_always : (P : Type 0) (verdict : Verdict) → P → IfGranted verdict (λ _. P)
+granted_always P (Granted set) p = p
+granted_always P (Denied part) p = tt

@@ -1,6 +1,6 @@
 //! Verdicts.
 
-ghost use Rattle.std.specs.Prelude.{ℕ, ◌≡◌, List, slice_set};
+ghost use Rattle.std.specs.Prelude.{ℕ, ◌≡◌, ◌<◌, List, length, slice_set};
 ghost use Rattle.arbac_policy.specs.Truth.{Holder, user};
 ghost use Rattle.arbac_policy.specs.Steps.{Step, KindStep};
 ghost use Rattle.arbac_policy.specs.Verdicts.{Denies, KindDenied};
@@ -34,6 +34,7 @@ pub fn decide_on(on: On, policy: &Policy, users: &[RoleSet], list: &[RoleSet], a
     requires { on ≡ user → users.now ≡ list.now }
     ensures granted { IfGranted result (λ set. KindStep act.now.kind on policy.now users.now list.now act.now.admin act.now.target act.now.role
         (slice_set list.now act.now.target set)) }
+    ensures inside { IfGranted result (λ _. act.now.target < length list.now) }
     ensures denied { IfDenied result (KindDenied act.now.kind on policy.now users.now list.now act.now.admin act.now.target act.now.role) }
 {
     let Some(by) = set_at(users, act.admin) else {
@@ -64,6 +65,7 @@ pub fn decide_on(on: On, policy: &Policy, users: &[RoleSet], list: &[RoleSet], a
 /// the first part that fails.
 pub fn decide(policy: &Policy, users: &[RoleSet], act: &Act) -> Verdict
     ensures granted { IfGranted result (λ set. Step policy.now users.now act.now (slice_set users.now act.now.target set)) }
+    ensures inside { IfGranted result (λ _. act.now.target < length users.now) }
     ensures denied { IfDenied result (Denies policy.now users.now act.now) }
     ensures no_step { IfDenied result (λ _. (new : List (List ℕ)) → ¬ Step policy.now users.now act.now new) }
 {

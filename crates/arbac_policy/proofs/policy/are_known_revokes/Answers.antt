@@ -1,7 +1,5 @@
-use Rattle.std.proofs.Common.{◌≡◌, ◌∙◌, ◌<◌, ap, sym, arith, length, Some, refl}
-use Rattle.std.specs.Prelude.{slice_get}
-use Rattle.std.proofs.lemmas.Bool.{false≢true}
-use Rattle.role_order.proofs.ListLemmas.{each_of, each_at, get_at, get_within, below_more}
+use Rattle.std.proofs.Common.{arith, refl}
+use Rattle.role_order.proofs.ListLemmas.{each_of, get_within}
 use Rattle.arbac_policy.specs.Rules.{IsKnownRevoke}
 use Rattle.arbac_policy.proofs.policy.are_known_revokes.Goals as goal
 

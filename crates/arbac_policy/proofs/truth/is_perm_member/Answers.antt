@@ -1,5 +1,4 @@
-use Rattle.std.proofs.Common.{◌≡◌, ◌∙◌, sym}
-use Rattle.role_order.specs.Roles.{IsIn}
+use Rattle.std.proofs.Common.{◌∙◌, sym}
 use Rattle.arbac_policy.proofs.MemberLemmas.{common_role, common_of}
 use Rattle.arbac_policy.proofs.truth.is_perm_member.Goals as goal
 

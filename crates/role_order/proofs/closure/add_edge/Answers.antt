@@ -1,4 +1,4 @@
-use Rattle.std.proofs.Common.{◌≡◌, ◌∙◌, sym, ap, map, length, [], get_or, slice_index_or, slice_set}
+use Rattle.std.proofs.Common.{◌∙◌, ap, map, length, [], get_or, slice_set}
 use Rattle.role_order.specs.Closures.{raised_set}
 use Rattle.role_order.proofs.ListLemmas.{get_any}
 use Rattle.role_order.proofs.ClosureLemmas.{mapped_step, mapped_all, written_back}

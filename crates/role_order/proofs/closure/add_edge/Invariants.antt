@@ -1,4 +1,4 @@
-use Rattle.std.proofs.Common.{ℕ, ◌≡◌, ◌++◌, [], map, take, drop, get_or}
+use Rattle.std.proofs.Common.{◌≡◌, ◌++◌, map, take, drop}
 use Rattle.role_order.specs.Closures.{raised_set}
 use Rattle.role_order.proofs.closure.add_edge.Given as goal
 

@@ -1,7 +1,7 @@
-use Rattle.std.proofs.Common.{ℕ, ◌≡◌, ◌∙◌, ◌<◌, ◌+◌, sym, ap, subst, true, false, Some, take, length, arith, List, ◌++◌, ◌∷◌, [], slice_index_or}
+use Rattle.std.proofs.Common.{ℕ, ◌≡◌, ◌∙◌, ◌<◌, sym, ap, subst, Some, take, length, arith, slice_index_or}
 use Rattle.std.specs.Prelude.{slice_get}
 use Rattle.std.proofs.lemmas.Bool.{false≢true}
-use Rattle.role_order.specs.Graph.{Leads, AreAcyclic, IsEdge}
+use Rattle.role_order.specs.Graph.{IsEdge}
 use Rattle.role_order.specs.Closures.{AreAbove, raised}
 use Rattle.role_order.proofs.ListLemmas.{get_at, each_at, take_one_more}
 use Rattle.role_order.proofs.ClosureLemmas.{raised_above, acyclic_more}
@@ -20,5 +20,5 @@ loop-place-preserved c =
       table = rw c.add_edge.ensures (subst (λ t. AreAbove c.args.count t (raised c.loop-place.above.items edge.0 edge.1)) (sym more)
           (raised_above c.args.count (take c.loop-place.place c.args.edges.now) c.loop-place.above.items edge.0 edge.1 c.loop-place.invariant.table ends.0 ends.1));
       acyclic = acyclic_more c.args.edges.now c.loop-place.place edge at c.loop-place.invariant.acyclic
-          (λ back. false≢true (sym c.if-has.false ∙ c.has.ensures ∙ (c.loop-place.invariant.table.each edge.0 c.index.result.now senior_at edge.1).1 back));
+          (λ back. false≢true (sym c.if-has.false ∙ c.has.ensures.value ∙ (c.loop-place.invariant.table.each edge.0 c.index.result.now senior_at edge.1).1 back));
     }

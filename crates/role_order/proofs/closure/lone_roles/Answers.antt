@@ -1,4 +1,3 @@
-use Rattle.std.proofs.Common.{◌≡◌, ◌∙◌, sym, ap, [], ◌++◌, ◌∷◌}
 use Rattle.role_order.proofs.ClosureLemmas.{one_alone}
 use Rattle.role_order.proofs.closure.lone_roles.Goals as goal
 

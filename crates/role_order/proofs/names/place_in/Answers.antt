@@ -3,4 +3,4 @@ use Rattle.role_order.proofs.NameLemmas.{position-texts}
 use Rattle.role_order.proofs.names.place_in.Goals as goal
 
 pub returns-clause-place : goal.returns-clause-place
-returns-clause-place c = c.position_in.ensures ∙ position-texts c.args.text.now c.args.names.now
+returns-clause-place c = c.position_in.ensures ∙ position-texts c.args.bytes.now c.args.names.now

@@ -1,4 +1,4 @@
-use Rattle.std.proofs.Common.{◌≡◌, ◌∙◌, ◌++◌, ◌∷◌, [], ap, sym, arith, take, ◌+◌, ◌≤◌, length}
+use Rattle.std.proofs.Common.{◌∙◌, ◌++◌, ◌∷◌, [], ap, sym, arith, take}
 use Rattle.std.specs.String.{string_bytes}
 use Rattle.role_order.specs.Names.{texts}
 use Rattle.role_order.proofs.ListLemmas.{take_all, take_one_more}

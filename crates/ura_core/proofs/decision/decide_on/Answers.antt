@@ -3,7 +3,8 @@ use Rattle.std.specs.Prelude.{slice_get, slice_set, Some}
 use Rattle.arbac_policy.specs.declared.act.ActKind.TheVariants.{Assign, Weak, Strong}
 use Rattle.arbac_policy.specs.Holders.{falling}
 use Rattle.arbac_policy.specs.Steps.{KindStep, StrongStep, WeakSteps}
-use Rattle.ura_core.proofs.AnswerLemmas.{granted_weaker}
+use Rattle.ura_core.proofs.AnswerLemmas.{granted_weaker, granted_always}
+use Rattle.role_order.proofs.ListLemmas.{get_within}
 use Rattle.ura_core.proofs.decision.decide_on.Goals as goal
 
 pub returns-in-None-clause-granted : goal.returns-in-None-clause-granted
@@ -31,3 +32,12 @@ pub returns-else-act-count-clause-granted : goal.returns-else-act-count-clause-g
 returns-else-act-count-clause-granted c = granted_weaker _ _ c.revoke_all.result
     (λ new steps. rw c.in-Strong.is record { set = c.in-Some-set_at.set.now; set_is = sym c.in-Some-set_at.ensures; steps = steps })
     c.revoke_all.ensures.granted
+
+pub returns-in-None-clause-inside : goal.returns-in-None-clause-inside
+returns-in-None-clause-inside c = (get_within c.args.list.now c.args.act.now.target c.in-Some-set_at.set.now (sym c.in-Some-set_at.ensures)).0
+
+pub returns-in-None-against_revoke-clause-inside : goal.returns-in-None-against_revoke-clause-inside
+returns-in-None-against_revoke-clause-inside c = (get_within c.args.list.now c.args.act.now.target c.in-Some-set_at.set.now (sym c.in-Some-set_at.ensures)).0
+
+pub returns-else-act-count-clause-inside : goal.returns-else-act-count-clause-inside
+returns-else-act-count-clause-inside c = granted_always _ c.revoke_all.result (get_within c.args.list.now c.args.act.now.target c.in-Some-set_at.set.now (sym c.in-Some-set_at.ensures)).0

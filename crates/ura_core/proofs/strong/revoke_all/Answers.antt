@@ -15,7 +15,7 @@ loop-role-init c = rw (below_none c.falling-falling.result) (set_same c.args.lis
 
 pub returns-in-Denied-clause-denied : goal.returns-in-Denied-clause-denied
 returns-in-Denied-clause-denied c =
-    let there : has_role c.falling-falling.result c.loop-role.role ≡ true = sym c.has.ensures ∙ c.if-has.true in
+    let there : has_role c.falling-falling.result c.loop-role.role ≡ true = sym c.has.ensures.value ∙ c.if-has.true in
     let split = split_at c.falling-falling.result c.loop-role.role c.falling-falling.ensures.rises there in
     subst (λ roles. WeaksDenied c.args.on c.args.policy.now c.args.users.now c.args.list.now c.args.act.now.admin c.args.act.now.target roles c.in-Denied.part)
     (sym split.1 ∙ c.falling-falling.ensures.falling)
@@ -25,13 +25,13 @@ returns-in-Denied-clause-denied c =
 pub loop-role-preserved : goal.loop-role-preserved
 loop-role-preserved c = elim c.if-has.branch [
   | then-has+in-Granted w ↦
-      let there : has_role c.falling-falling.result c.loop-role.role ≡ true = sym c.has.ensures ∙ w.if-has.true in
+      let there : has_role c.falling-falling.result c.loop-role.role ≡ true = sym c.has.ensures.value ∙ w.if-has.true in
       rw (w.left-is, below_next c.falling-falling.result c.loop-role.role c.falling-falling.ensures.rises there)
       (weak_steps_more c.args.on c.args.policy.now c.args.users.now c.args.list.now (slice_set c.args.list.now c.args.act.now.target c.loop-role.left)
       (slice_set c.args.list.now c.args.act.now.target w.in-Granted.next) c.args.act.now.admin c.args.act.now.target
       (filter (λ x. nat_lt x c.loop-role.role) c.falling-falling.result) c.loop-role.role c.loop-role.invariant w.in-Granted.ensures.granted)
   | else-has w ↦
-      let gone : has_role c.falling-falling.result c.loop-role.role ≡ false = sym c.has.ensures ∙ w.if-has.false in
+      let gone : has_role c.falling-falling.result c.loop-role.role ≡ false = sym c.has.ensures.value ∙ w.if-has.false in
       rw (w.left-is, below_same c.falling-falling.result c.loop-role.role gone) c.loop-role.invariant
 ]
 

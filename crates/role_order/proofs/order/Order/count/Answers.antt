@@ -1,4 +1,4 @@
-use Rattle.std.proofs.Common.{◌≡◌, ◌∙◌, ap, length}
+use Rattle.std.proofs.Common.{◌∙◌, ap, length}
 use Rattle.role_order.specs.Names.{texts}
 use Rattle.role_order.specs.Graph.{Graph}
 use Rattle.role_order.proofs.order.Order.count.Goals as goal

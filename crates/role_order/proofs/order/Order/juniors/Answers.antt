@@ -1,7 +1,5 @@
-use Rattle.std.proofs.Common.{ℕ, ◌≡◌, ◌∙◌, ◌<◌, ◌+◌, sym, ap, subst, true, false, arith, length}
+use Rattle.std.proofs.Common.{◌∙◌, sym, arith, length}
 use Rattle.std.proofs.lemmas.Bool.{false≢true}
-use Rattle.role_order.specs.Roles.{IsIn, Rises}
-use Rattle.role_order.specs.Graph.{Leads}
 use Rattle.role_order.proofs.ClosureLemmas.{below_juniors, junior_more, junior_not, all_juniors}
 use Rattle.role_order.proofs.SetLemmas.{rises-with_role}
 use Rattle.role_order.proofs.order.Order.juniors.Goals.{then-geq, else-geq}

@@ -1,4 +1,4 @@
-use Rattle.std.proofs.Common.{◌≡◌, ◌∙◌, ◌<◌, ap, arith, sym, length, Some}
+use Rattle.std.proofs.Common.{◌∙◌, ◌<◌, ap, arith, sym, length, Some}
 use Rattle.std.specs.Prelude.{slice_get}
 use Rattle.role_order.specs.Graph.{Graph}
 use Rattle.role_order.proofs.NameLemmas.{length_texts, slice_get_texts}

@@ -1,7 +1,6 @@
-use Rattle.std.proofs.Common.{ℕ, ◌≡◌, ◌∙◌, ap, subst, sym, map, List}
+use Rattle.std.proofs.Common.{◌≡◌, ◌∙◌, ap, map}
 use Rattle.role_order.specs.Names.{texts}
-use Rattle.role_order.specs.Graph.{Graph, Leads, turned}
-use Rattle.role_order.specs.Refusals.{IsOrder}
+use Rattle.role_order.specs.Graph.{Graph, turned}
 use Rattle.role_order.proofs.ReachLemmas.{leads_turned, leads_back}
 use Rattle.role_order.proofs.ClosureLemmas.{turned_order}
 use Rattle.role_order.proofs.order.Order.reversed.Goals as goal

@@ -1,4 +1,4 @@
-use Rattle.std.proofs.Common.{◌≡◌, ◌+◌, ◌<◌, length, arith, false, sym, ◌&&◌, get_or, ap, ◌∙◌}
+use Rattle.std.proofs.Common.{arith, false, sym, ◌&&◌, get_or, ap, ◌∙◌}
 use Rattle.role_order.proofs.PlacesLemmas.{places-filtered, has_role-places_0, rises-places}
 use Rattle.role_order.proofs.role_set.RoleSet.common.Goals as goal
 

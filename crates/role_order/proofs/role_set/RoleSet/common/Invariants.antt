@@ -1,4 +1,4 @@
-use Rattle.std.proofs.Common.{ℕ, ◌≡◌, ◌<◌, ◌≤◌, length, get_or, false, ◌&&◌}
+use Rattle.std.proofs.Common.{ℕ, ◌≡◌, ◌<◌, length, get_or, false, ◌&&◌}
 use Rattle.role_order.proofs.role_set.RoleSet.common.Given as goal
 
 abbrev pub invariant-loop-at : goal.invariant-loop-at

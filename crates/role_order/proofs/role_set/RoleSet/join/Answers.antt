@@ -1,4 +1,4 @@
-use Rattle.std.proofs.Common.{◌≡◌, ◌+◌, ◌<◌, length, arith}
+use Rattle.std.proofs.Common.{arith}
 use Rattle.role_order.proofs.PlacesLemmas.{places-joined}
 use Rattle.role_order.proofs.role_set.RoleSet.join.Goals as goal
 

@@ -1,4 +1,4 @@
-use Rattle.std.proofs.Common.{◌≡◌, ◌+◌, ◌<◌, length, arith, sym, ◌∙◌, true, false, get_or}
+use Rattle.std.proofs.Common.{arith, sym, ◌∙◌}
 use Rattle.role_order.proofs.PlacesLemmas.{list_any-places, list_any-places_found, has_role-places}
 use Rattle.role_order.proofs.role_set.RoleSet.meets.Goals as goal
 

@@ -1,0 +1,4 @@
+//! The desk: one call does all that the program does.
+#![tactic(auto)]
+
+mod texts;

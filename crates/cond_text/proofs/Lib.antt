@@ -1,0 +1,14 @@
+pub mod CompleteLemmas
+pub mod SoundLemmas
+pub mod PrefixLemmas
+pub mod JudgeLemmas
+pub mod TermLemmas
+pub mod FewestLemmas
+pub mod LimitLemmas
+pub mod NameLemmas
+pub mod TextLemmas
+pub mod ParenthesisLemmas
+pub mod WrittenLemmas
+pub mod WordLemmas
+pub mod ReadLemmas
+pub mod PrintLemmas

@@ -1,0 +1,40 @@
+//! What may stand at a place of a condition.
+
+ghost use Rattle.std.specs.Prelude.{◌≡◌};
+ghost use Rattle.cond_text.specs.Grammar.{takes_and as free_and, takes_or as free_or};
+
+/// What is wanted at a place of a condition. An operand serves everywhere, a conjunction
+/// wherever a condition does.
+#[derive(Clone, Copy)]
+pub enum Level {
+    /// `any`, a name, `not` and a name, or a condition in parentheses.
+    Operand,
+    /// Operands with `and` between them.
+    Conjunction,
+    /// Conjunctions with `or` between them.
+    Condition,
+}
+
+impl Level {
+    /// Whether an `and` stands here without parentheses.
+    pub fn takes_and(self) -> bool
+        ensures { result ≡ free_and self }
+    {
+        match self {
+            Level::Operand => false,
+            Level::Conjunction => true,
+            Level::Condition => true,
+        }
+    }
+
+    /// Whether an `or` stands here without parentheses.
+    pub fn takes_or(self) -> bool
+        ensures { result ≡ free_or self }
+    {
+        match self {
+            Level::Operand => false,
+            Level::Conjunction => false,
+            Level::Condition => true,
+        }
+    }
+}

@@ -1,0 +1,29 @@
+use Rattle.std.proofs.Common.{ℕ, ◌≡◌, ◌∙◌, ◌<◌, List, take, sym, ap, arith, length, Some}
+use Rattle.std.specs.Prelude.{slice_get, slice_set}
+use Rattle.role_order.proofs.ListLemmas.{get_at}
+use Rattle.arbac_policy.specs.declared.act.ActKind.TheVariants.{Assign}
+use Rattle.plan_replay.proofs.RunLemmas.{run_taken, no_run, length-slice_set}
+use Rattle.plan_replay.proofs.replaying.replay.Goals as goal
+
+pub index_mut-requires : goal.index_mut-requires
+index_mut-requires c = omega (arith, c.in-Granted.ensures.inside, c.loop-place.users.ok.0, ap length c.deref.ensures.value)
+
+pub returns-in-Denied-clause-stopped : goal.returns-in-Denied-clause-stopped
+returns-in-Denied-clause-stopped c = record {
+  act = _;
+  at = get_at c.args.acts.now c.loop-place.place _ c.loop-place-test.true;
+  state = c.loop-place.users.items;
+  run = c.loop-place.invariant.run;
+  denied = rw c.deref.ensures.value at c.in-Denied.ensures.denied;
+}
+
+pub returns-in-Denied-clause-no_run : goal.returns-in-Denied-clause-no_run
+returns-in-Denied-clause-no_run c = no_run c.args.policy.now c.args.start.now c.loop-place.users.items c.args.acts.now c.loop-place.place _
+    (get_at c.args.acts.now c.loop-place.place _ c.loop-place-test.true) c.loop-place.invariant.run (rw c.deref.ensures.value at c.in-Denied.ensures.no_step)
+
+pub loop-place-preserved : goal.loop-place-preserved
+loop-place-preserved c = record {
+  run = run_taken c.args.policy.now c.args.start.now c.loop-place.users.items _ c.args.acts.now c.loop-place.place _
+      (get_at c.args.acts.now c.loop-place.place _ c.loop-place-test.true) c.loop-place.invariant.run (rw c.deref.ensures.value at c.in-Granted.ensures.granted);
+  long = length-slice_set c.loop-place.users.items _ c.in-Granted.set ∙ c.loop-place.invariant.long;
+}

@@ -1,0 +1,252 @@
+//! Role orders and role sets, call by call.
+use crate::{Order, OrderError, Range, RoleSet};
+use std::alloc::{AllocError, Global};
+use std::process::Abort;
+use std::test::Fail;
+
+/// Names, edges, and the refusal of both, if there is one.
+type Row = (
+    &'static [&'static str],
+    &'static [(u16, u16)],
+    Option<OrderError>,
+);
+
+const LETTERS_64: &str = "abcdefghijklmnopqrstuvwxyzABCDEFGHIJKLMNOPQRSTUVWXYZ0123456789_.";
+
+const LETTERS_65: &str = "abcdefghijklmnopqrstuvwxyzABCDEFGHIJKLMNOPQRSTUVWXYZ0123456789_.-";
+
+/// Each refusal, where those after it have their reasons too.
+const MADE: [Row; 19] = [
+    (
+        &["a", "b", "c"],
+        &[(0, 1), (1, 2), (2, 0)],
+        Some(OrderError::Cycle { place: 2 }),
+    ),
+    (&["a", "b", "c"], &[(0, 1), (1, 2), (0, 2)], None),
+    (&["a", "b", "c"], &[(0, 1), (0, 1), (2, 1)], None),
+    (
+        &["a", "b", "c", "d"],
+        &[(0, 1), (0, 2), (1, 3), (2, 3)],
+        None,
+    ),
+    (
+        &["a", "b", "c", "d"],
+        &[(0, 1), (2, 3), (1, 2), (3, 0), (3, 3)],
+        Some(OrderError::Cycle { place: 3 }),
+    ),
+    (
+        &["a", "b"],
+        &[(0, 1), (1, 1)],
+        Some(OrderError::Cycle { place: 1 }),
+    ),
+    (
+        &["a", "b"],
+        &[(0, 0), (0, 2), (2, 0)],
+        Some(OrderError::EdgeOutOfRange { place: 1 }),
+    ),
+    (
+        &["a", "b"],
+        &[(0, 1), (2, 0)],
+        Some(OrderError::EdgeOutOfRange { place: 1 }),
+    ),
+    (
+        &["a", "a"],
+        &[(0, 5)],
+        Some(OrderError::SameName {
+            first: 0,
+            second: 1,
+        }),
+    ),
+    (
+        &["a", "b", "c", "b", "a"],
+        &[],
+        Some(OrderError::SameName {
+            first: 1,
+            second: 3,
+        }),
+    ),
+    (
+        &["a", "A", "a!", "a"],
+        &[(0, 5)],
+        Some(OrderError::BadName { place: 2 }),
+    ),
+    (&["any"], &[], Some(OrderError::BadName { place: 0 })),
+    (&["an", "not"], &[], Some(OrderError::BadName { place: 1 })),
+    (&["and"], &[], Some(OrderError::BadName { place: 0 })),
+    (&["or"], &[], Some(OrderError::BadName { place: 0 })),
+    (&["", ""], &[], Some(OrderError::BadName { place: 0 })),
+    (&[LETTERS_64, "-", "Any", "nota"], &[], None),
+    (
+        &[LETTERS_64, LETTERS_65],
+        &[],
+        Some(OrderError::BadName { place: 1 }),
+    ),
+    (&[], &[(0, 1)], Some(OrderError::NoRoles)),
+];
+
+const DEPARTMENT: [&str; 15] = [
+    "E", "ED", "E1", "PE1", "QE1", "PL1", "E2", "PE2", "QE2", "PL2", "DIR", "SSO", "DSO", "PSO1",
+    "PSO2",
+];
+
+const DEPARTMENT_EDGES: [(u16, u16); 16] = [
+    (10, 5),
+    (10, 9),
+    (5, 3),
+    (5, 4),
+    (3, 2),
+    (4, 2),
+    (9, 7),
+    (9, 8),
+    (7, 6),
+    (8, 6),
+    (2, 1),
+    (6, 1),
+    (1, 0),
+    (11, 12),
+    (12, 13),
+    (12, 14),
+];
+
+/// Of the department: low and high end, whether each is open, and the roles in the range.
+const RANGES: [(&str, &str, bool, bool, &[&str]); 6] = [
+    ("E1", "PL1", false, true, &["E1", "PE1", "QE1"]),
+    ("E1", "PL1", false, false, &["E1", "PE1", "QE1", "PL1"]),
+    ("E1", "PL1", true, false, &["PE1", "QE1", "PL1"]),
+    (
+        "ED",
+        "DIR",
+        true,
+        true,
+        &["E1", "PE1", "QE1", "PL1", "E2", "PE2", "QE2", "PL2"],
+    ),
+    ("E1", "E1", false, true, &[]),
+    ("E2", "PL1", false, false, &[]),
+];
+
+fn names_of(alloc: Global, texts: &[&str]) -> Result<Vec<String>, AllocError> {
+    let mut names = Vec::new(alloc);
+    for text in texts {
+        names.push(String::from_str(alloc, text)?)?;
+    }
+    Ok(names)
+}
+
+fn order_of(
+    rt: &impl Abort,
+    alloc: Global,
+    names: Vec<String>,
+    edges: &[(u16, u16)],
+) -> Result<Result<Order, OrderError>, AllocError> {
+    let edges = Vec::from_slice(alloc, edges)?;
+    assert!(rt; names.len() < 1_000 && edges.len() < 1_000);
+    Ok(Order::new(alloc, names, edges))
+}
+
+#[test]
+fn an_order_is_made_or_refused(rt: HostRuntime) -> Result<(), Fail> {
+    let alloc = rt.alloc();
+    for (at, (texts, edges, want)) in MADE.iter().enumerate() {
+        let made = order_of(&rt, alloc, names_of(alloc, texts)?, edges)?;
+        assert_eq!(rt; made.err(), *want, "at {at}");
+    }
+    Ok(())
+}
+
+#[test]
+fn the_most_roles_are_250_in_one_chain(rt: HostRuntime) -> Result<(), Fail> {
+    let alloc = rt.alloc();
+    for (count, last, want) in [
+        (249u16, "z", None),
+        (250, "z", None),
+        (250, "or", Some(OrderError::BadName { place: 249 })),
+        (251, "or", Some(OrderError::TooManyRoles { count: 251 })),
+    ] {
+        let mut names = Vec::new(alloc);
+        let mut edges = Vec::new(alloc);
+        for role in 1..count {
+            names.push(format!(in alloc; "r{role}")?)?;
+            edges.push((role - 1, role))?;
+        }
+        names.push(String::from_str(alloc, last)?)?;
+        match order_of(&rt, alloc, names, &edges)? {
+            Ok(order) => {
+                assert!(rt; want.is_none() && order.count() == count && 249 <= count);
+                assert!(rt;
+                    order.geq(0, count - 1) && !order.geq(count - 1, 0),
+                    "of {count}"
+                );
+                let middle = order.seniors(100).less(&order.juniors(100));
+                assert!(rt; middle.has(99) && !middle.has(100), "of {count}");
+                assert_eq!(rt; order.role_named("z"), Some(count - 1));
+                assert_eq!(rt; order.role_named("r0"), None);
+            }
+            Err(error) => assert_eq!(rt; Some(error), want, "of {count}"),
+        }
+    }
+    Ok(())
+}
+
+#[test]
+fn a_range_of_the_department_has_its_roles(rt: HostRuntime) -> Result<(), Fail> {
+    let alloc = rt.alloc();
+    let names = names_of(alloc, &DEPARTMENT)?;
+    let order = order_of(&rt, alloc, names, &DEPARTMENT_EDGES)?
+        .ok()
+        .ok_or("no order")?;
+    for (low, high, low_open, high_open, texts) in &RANGES {
+        let range = Range {
+            low: order.role_named(low).ok_or("no role")?,
+            high: order.role_named(high).ok_or("no role")?,
+            low_open: *low_open,
+            high_open: *high_open,
+        };
+        for role in 0..order.count() {
+            let name = order.name(role);
+            let want = texts.iter().any(|text| *text == name);
+            assert_eq!(rt;
+                order.in_range(&range, role),
+                want,
+                "{name} of {low} {high}"
+            );
+        }
+    }
+    Ok(())
+}
+
+#[test]
+fn a_reversed_order_turns_each_edge(rt: HostRuntime) -> Result<(), Fail> {
+    let alloc = rt.alloc();
+    let order = order_of(&rt, alloc, names_of(alloc, &["a", "b"])?, &[(0, 1)])?;
+    let back = order.ok().ok_or("no order")?.reversed(alloc)?;
+    assert_eq!(rt; back.count(), 2);
+    assert!(rt; back.geq(1, 0) && !back.geq(0, 1));
+    assert_eq!(rt; back.edges(), [(1, 0)].as_slice());
+    assert_eq!(rt; back.name(1), "b");
+    Ok(())
+}
+
+#[test]
+fn a_set_has_the_roles_that_it_was_given(rt: HostRuntime) {
+    let ends = RoleSet::empty().with(249).with(0);
+    let first = ends.without(249).without(250);
+    for (role, in_ends, in_first) in [
+        (0, true, true),
+        (1, false, false),
+        (249, true, false),
+        (250, false, false),
+        (65_535, false, false),
+    ] {
+        assert_eq!(rt; ends.has(role), in_ends, "at {role}");
+        assert_eq!(rt; first.has(role), in_first, "at {role}");
+        assert_eq!(rt; first.join(&ends).has(role), in_ends, "at {role}");
+        assert_eq!(rt; first.common(&ends).has(role), in_first, "at {role}");
+        assert_eq!(rt;
+            ends.less(&first).has(role),
+            in_ends && !in_first,
+            "at {role}"
+        );
+    }
+    assert!(rt; first.within(&ends) && !ends.within(&first));
+    assert!(rt; first.meets(&ends) && !first.meets(&ends.less(&first)));
+}
