@@ -16,7 +16,7 @@ use Rattle.cond_text.specs.Words.{words, placed_words}
 use Rattle.cond_text.proofs.CompleteLemmas.{one_term}
 use Rattle.cond_text.proofs.LimitLemmas.{fine_term}
 use Rattle.policy_text.specs.Shapes.{Shape, NamedRange, a_role, an_edge, an_assign, a_revoke, a_user, an_act, a_goal}
-use Rattle.policy_text.specs.Runs.{AssignRule, RunValue, nothing, plain_rule, MayStand, HasRoom, Names, NameEach, NamesRange, NamesSet, Says, set_of, Gains, Adds, AddAll, behind_roles, behind_edges}
+use Rattle.policy_text.specs.Runs.{AssignRule, RunValue, nothing, plain_rule, MayStand, HasRoom, Names, NameEach, NamesRange, NamesSet, Says, set_of, Gains, Adds, AddAll, AreKnownGoals, StandsFor}
 
 same_some : {A : Type 0} (x y : A) → Some x ≡ Some y → x ≡ y
 same_some x y e = cc
@@ -89,6 +89,7 @@ pub record IsKnownRule (count : ℕ) (rule : AssignRule) : Type 0 where
 pub record AreKnownRules (run : RunValue) : Type 0 where
   pub assign : Each (IsKnownRule (length run.names)) run.assign
   pub revoke : Each (IsKnownRevoke (length run.names)) run.revoke
+  pub goal : AreKnownGoals run
 
 each_more : {A : Type 0} (P : A → Type 0) (xs : List A) (x : A) → Each P xs → P x → Each P (xs ++ x ∷ [])
 each_more P [] x each p = (p, tt)
@@ -104,38 +105,48 @@ range_known names written range h = (place_within names written.low range.low h.
 zero_both : (a b : ℕ) → a + b ≡ 0 → (a ≡ 0) × (b ≡ 0)
 zero_both a b e = (omega arith, omega arith)
 
+cond_known : (names : List (List ℕ)) (text : List ℕ) (term : Term) → Says names text term → IsKnown (length names) term
+cond_known names text term h = (fine_term (length names) (placed_words names text) term h.0 h.1).0
+
 known_more : (run next : RunValue) (shape : Shape) → AreKnownRules run → Adds run shape next → AreKnownRules next
 known_more run next (a_role name) known a =
-    let edges = (zero_both (length run.edges) _ a.place).1 in
-    subst AreKnownRules (sym a.gains) (record {
-      assign = each_none _ run.assign (zero_both (length run.assign) _ edges).0;
-      revoke = each_none _ run.revoke (zero_both (length run.revoke) _ (zero_both (length run.assign) _ edges).1).0;
-    })
-known_more run next (an_edge senior junior) known a = subst AreKnownRules (sym a.gains.3) (record { assign = known.assign; revoke = known.revoke })
+    let assigns = zero_both (length run.assign) _ (zero_both (length run.edges) _ a.place).1 in
+    let revokes = zero_both (length run.revoke) _ assigns.1 in
+    let acts = zero_both (length run.acts) _ (zero_both (length run.start) _ revokes.1).1 in
+    subst AreKnownRules (sym a.gains) (record { assign = each_none _ run.assign assigns.0; revoke = each_none _ run.revoke revokes.0; goal = each_none _ run.goal acts.1 })
+known_more run next (an_edge senior junior) known a = subst AreKnownRules (sym a.gains.3) (record { assign = known.assign; revoke = known.revoke; goal = known.goal })
 known_more run next (an_assign admin range condition) known a =
     let rule : IsKnownRule (length run.names) a.gains.0 = record {
       admin = place_within run.names admin a.gains.0.admin a.gains.1;
-      cond = (fine_term (length run.names) (placed_words run.names condition) a.gains.0.cond a.gains.3.0 a.gains.3.1).0;
+      cond = cond_known run.names condition a.gains.0.cond a.gains.3;
       range = range_known run.names range a.gains.0.range a.gains.2;
     } in
-    subst AreKnownRules (sym a.gains.4) (record { assign = each_more (IsKnownRule (length run.names)) run.assign a.gains.0 known.assign rule; revoke = known.revoke })
+    subst AreKnownRules (sym a.gains.4) (record { assign = each_more (IsKnownRule (length run.names)) run.assign a.gains.0 known.assign rule; revoke = known.revoke; goal = known.goal })
 known_more run next (a_revoke admin range) known a =
     let rule : IsKnownRevoke (length run.names) a.gains.0 = record {
       admin = place_within run.names admin a.gains.0.admin a.gains.1;
       range = range_known run.names range a.gains.0.range a.gains.2;
     } in
-    subst AreKnownRules (sym a.gains.3) (record { assign = known.assign; revoke = each_more (IsKnownRevoke (length run.names)) run.revoke a.gains.0 known.revoke rule })
-known_more run next (a_user names) known a = subst AreKnownRules (sym a.gains.2) (record { assign = known.assign; revoke = known.revoke })
-known_more run next (an_act kind admin target role) known a = subst AreKnownRules (sym a.gains.5) (record { assign = known.assign; revoke = known.revoke })
-known_more run next (a_goal condition) known a = subst AreKnownRules (sym a.gains.2) (record { assign = known.assign; revoke = known.revoke })
+    subst AreKnownRules (sym a.gains.3) (record { assign = known.assign; revoke = each_more (IsKnownRevoke (length run.names)) run.revoke a.gains.0 known.revoke rule; goal = known.goal })
+known_more run next (a_user names) known a = subst AreKnownRules (sym a.gains.2) (record { assign = known.assign; revoke = known.revoke; goal = known.goal })
+known_more run next (an_act kind admin target role) known a = subst AreKnownRules (sym a.gains.5) (record { assign = known.assign; revoke = known.revoke; goal = known.goal })
+known_more run next (a_goal condition) known a =
+    subst AreKnownRules (sym a.gains.2) (record {
+      assign = known.assign;
+      revoke = known.revoke;
+      goal = each_more (IsKnown (length run.names)) run.goal a.gains.0 known.goal (cond_known run.names condition a.gains.0 a.gains.1);
+    })
 
 known_all : (run last : RunValue) (lines : List Shape) → AreKnownRules run → AddAll run lines last → AreKnownRules last
 known_all run last [] known a = subst AreKnownRules (sym a) known
 known_all run last (line ∷ lines) known a = known_all a.0 last lines (known_more run a.0 line known a.1) a.2
 
--- the rules that right lines tell name roles alone
+-- the rules and goals that right lines tell name roles alone
 pub known_nothing : (last : RunValue) (lines : List Shape) → AddAll nothing lines last → AreKnownRules last
-known_nothing last lines a = known_all nothing last lines (record { assign = tt; revoke = tt }) a
+known_nothing last lines a = known_all nothing last lines (record { assign = tt; revoke = tt; goal = tt }) a
+
+pub known_of : (bytes : List ℕ) (run : RunValue) → StandsFor bytes run → AreKnownGoals run
+known_of bytes run h = (known_nothing run h.read.lines h.read.added).goal
 
 pub each_plain : (count : ℕ) (rules : List CanAssign) → Each (IsKnownRule count) (map plain_rule rules) → Each (IsKnownAssign count) rules
 each_plain count [] each = tt

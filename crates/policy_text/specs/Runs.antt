@@ -9,7 +9,7 @@ use Rattle.role_order.specs.Refusals.{IsOrder}
 use Rattle.arbac_policy.specs.declared.act.Act.{Act}
 use Rattle.arbac_policy.specs.declared.rule.CanAssign.{CanAssign}
 use Rattle.arbac_policy.specs.declared.rule.CanRevoke.{CanRevoke}
-use Rattle.arbac_policy.specs.Truth.{Term, term_of}
+use Rattle.arbac_policy.specs.Truth.{Term, term_of, IsKnown}
 use Rattle.arbac_policy.specs.Rules.{Rules}
 use Rattle.cond_text.specs.Reading.{StandsFor as Means, IsFaultless}
 use Rattle.policy_text.specs.declared.TheConstants.{MOST_EDGES, MOST_RULES, MOST_USERS, MOST_ACTS, MOST_GOALS}
@@ -170,6 +170,20 @@ pub record StandsFor (bytes : List ℕ) (run : RunValue) : Type 0 where
   pub read : IsReadTo bytes run number (codes "end" ∷ []) []
   pub order : IsOrder run.names run.edges
   pub goal : 1 ≤ length run.goal
+
+-- no table is longer than a text may tell it
+pub record KeepsLimits (run : RunValue) : Type 0 where
+  pub names : length run.names ≤ MOST_ROLES
+  pub edges : length run.edges ≤ MOST_EDGES
+  pub assign : length run.assign ≤ MOST_RULES
+  pub revoke : length run.revoke ≤ MOST_RULES
+  pub start : length run.start ≤ MOST_USERS
+  pub acts : length run.acts ≤ MOST_ACTS
+  pub goal : length run.goal ≤ MOST_GOALS
+
+-- each role of a goal's condition is one of the order's
+abbrev pub AreKnownGoals : RunValue → Type 0
+AreKnownGoals run = Each (IsKnown (length run.names)) run.goal
 
 -- the run that was read has these parts, unless memory ran out
 abbrev pub Reads : Result Run RunError → RunValue → Type 0

@@ -1,10 +1,10 @@
 //! Reading run texts.
 
-ghost use Rattle.std.specs.Prelude.{ℕ, ◌≡◌, ◌<◌, ◌+◌, ◌^◌, [], List, length, vec_len, IfOk, IfErr};
+ghost use Rattle.std.specs.Prelude.{ℕ, ◌≡◌, ◌<◌, ◌≤◌, ◌+◌, ◌^◌, [], List, length, vec_len, IfOk, IfErr};
 ghost use Rattle.role_order.specs.Names.{texts};
 ghost use Rattle.role_order.specs.Refusals.{IsOrder};
 ghost use Rattle.arbac_policy.specs.Rules.{IsPolicy, AreCountable, policy_of as rules_of};
-ghost use Rattle.policy_text.specs.Runs.{RunValue, StandsFor, Reads, plain_of, IsForUsers};
+ghost use Rattle.policy_text.specs.Runs.{RunValue, StandsFor, Reads, plain_of, IsForUsers, KeepsLimits, AreKnownGoals};
 ghost use Rattle.policy_text.specs.Faults.{IsFirstFault};
 ghost use Rattle.policy_text.specs.Steps.{IsOrderTold, run_view};
 
@@ -109,6 +109,10 @@ pub fn read_run(alloc: Global, bytes: &[u8]) -> Result<Run, RunError>
     ensures found { IfOk result (λ run. StandsFor bytes.now (plain_of run)) }
     // It has no rules for permissions and no exclusive pairs.
     ensures users { IfOk result (λ run. IsForUsers run.policy) }
+    // Its tables keep their limits, and its goal has conditions, each on roles of the order.
+    ensures few { IfOk result (λ run. KeepsLimits (plain_of run)) }
+    ensures goal { IfOk result (λ run. 1 ≤ length run.goal.items) }
+    ensures known { IfOk result (λ run. AreKnownGoals (plain_of run)) }
     // A text that stands for a run is read as that run.
     ensures only { (run : RunValue) → StandsFor bytes.now run → Reads result run }
     // An error is the first fault.
