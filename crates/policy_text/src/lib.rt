@@ -27,3 +27,6 @@ pub const MOST_ACTS: usize = 100_000;
 
 /// The greatest number of conditions of a goal.
 pub const MOST_GOALS: usize = 8;
+
+#[cfg(test)]
+mod tests;
