@@ -1,0 +1,312 @@
+-- A text that stands for a run has no fault, and stands for no other run.
+use Rattle.std.proofs.Common.{ℕ, ◌≡◌, ◌<◌, ◌≤◌, ◌+◌, ◌⊎◌, inl, inr, Bool, true, false, List, [], ◌∷◌, ◌++◌, append_assoc, append-nil, length, refl, arith, sym, ◌∙◌, ap, subst, Option, Some, None, map, cond, zero, suc, IfOk, IfErr, Result, Ok, Err}
+use Rattle.std.specs.Prelude.{codes, slice_get, take, not, nat_lt}
+use Rattle.std.specs.List.{position_or_len}
+use Rattle.std.specs.Str.{bytes_eq}
+use Rattle.std.proofs.lemmas.Bool.Decides.{nat_tests}
+use Rattle.std.proofs.lemmas.Slice.Eq.{bytes_eq-Decides}
+use Rattle.std.proofs.lemmas.Bool.{false≢true}
+use Rattle.role_order.specs.declared.order.OrderError.{OrderError}
+use Rattle.role_order.specs.declared.order.OrderError.TheVariants as refusals
+use Rattle.role_order.specs.Lists.{Each, Some_of, IsFirst}
+use Rattle.role_order.specs.Names.{place_of, is_role_name}
+use Rattle.role_order.specs.Graph.{IsEdge, AreEdges}
+use Rattle.role_order.specs.Refusals.{IsOrder, IsRefused}
+use Rattle.role_order.proofs.ListLemmas.{each_at, get_taken}
+use Rattle.arbac_policy.specs.Truth.{Term}
+use Rattle.cond_text.specs.declared.word.Word.{Word}
+use Rattle.cond_text.specs.declared.word.Placed.{Placed}
+use Rattle.cond_text.specs.declared.cond_error.CondError.{CondError}
+use Rattle.cond_text.specs.declared.cond_error.CondError.TheVariants as conditions
+use Rattle.cond_text.specs.Words.{plain, placed_words}
+use Rattle.cond_text.specs.Grammar.{Stands}
+use Rattle.cond_text.specs.Faults.{IsFaultAt, IsFine, AreFine, IsFirstFault as IsFirstCondFault}
+use Rattle.cond_text.specs.Reading.{IsRefused as IsRefusedCond}
+use Rattle.policy_text.specs.declared.run_error.RunError.{RunError}
+use Rattle.policy_text.specs.declared.run_error.RunError.TheVariants.{BadLine, UnknownRole, Order, Cond, TooMany, Unended, Memory}
+use Rattle.policy_text.specs.Lines.{split, is_order_line}
+use Rattle.policy_text.specs.Shapes.{Shape, NamedRange, a_role, an_edge, an_assign, a_revoke, a_user, an_act, a_goal, IsShape, tells_order, spell}
+use Rattle.policy_text.specs.Spelling.{shape_of}
+use Rattle.policy_text.specs.Runs.{RunValue, nothing, MayStand, HasRoom, Names, NameEach, NamesRange, Says, Gains, Adds, AddAll, behind_edges, behind_roles, IsReadTo, StandsFor}
+use Rattle.policy_text.specs.Faults.{IsUnknown, HasUnknown, HasCondFault, IsPlaced, IsLineFault, EndsOrder, IsFaultInside, IsFaultAhead, IsFaultBehind, IsOrderFault, IsUnended, IsFirstFault}
+use Rattle.policy_text.specs.Steps.{AddsLine}
+use Rattle.policy_text.proofs.LineLemmas.{same_pair}
+use Rattle.policy_text.proofs.FormLemmas.{form_found}
+use Rattle.policy_text.proofs.StepLemmas.{order_line_is, no_end, begun}
+use Rattle.policy_text.proofs.SoleLemmas.{gains_one}
+
+-- conditions
+
+cond_clash_at : (count : ℕ) (before : List Word) (x : Placed) (rest : List Placed) (f : CondError) → IsFaultAt count before x rest f → IsFine count before x rest → ⊥
+cond_clash_at count before x rest (conditions.Unexpected place) h k = h.1 k.expected
+cond_clash_at count before x rest (conditions.TooDeep place) h k = k.shallow h.2
+cond_clash_at count before x rest (conditions.UnknownRole place) h k = k.known h.3
+cond_clash_at count before x rest conditions.Memory h k = h
+
+cond_clash : (count size : ℕ) (ws : List Placed) (before : List Word) (f : CondError) (t : Term) → IsFirstCondFault count size before ws f → AreFine count before ws → Stands (before ++ plain ws) t → ⊥
+cond_clash count size [] before f t h k st = h.1 t (subst (λ (ws : List Word). Stands ws t) (append-nil before) st)
+cond_clash count size (x ∷ xs) before f t h k st = elim h [
+  | inl a ↦ cond_clash_at count before x xs f a k.0
+  | inr a ↦ cond_clash count size xs (before ++ (x.word ∷ [])) f t a.1 k.1 (subst (λ (ws : List Word). Stands ws t) (sym (append_assoc before (x.word ∷ []) (plain xs))) st)
+]
+
+says_clash : (names : List (List ℕ)) (text : List ℕ) (term : Term) (error : CondError) → Says names text term → IsRefusedCond names text error → (error ≡ conditions.Memory → ⊥) → ⊥
+says_clash names text term (conditions.Unexpected place) s r m = cond_clash (length names) (length text) (placed_words names text) [] (conditions.Unexpected place) term r s.1 s.0
+says_clash names text term (conditions.UnknownRole place) s r m = cond_clash (length names) (length text) (placed_words names text) [] (conditions.UnknownRole place) term r s.1 s.0
+says_clash names text term (conditions.TooDeep place) s r m = cond_clash (length names) (length text) (placed_words names text) [] (conditions.TooDeep place) term r s.1 s.0
+says_clash names text term conditions.Memory s r m = m refl
+
+-- role orders
+
+prefix_at : (name : List ℕ) (names : List (List ℕ)) → position_or_len (λ other. bytes_eq other name) names < length names
+    → slice_get names (position_or_len (λ other. bytes_eq other name) names) ≡ Some name
+prefix_at name [] l = absurd (omega arith)
+prefix_at name (n ∷ ns) l = by_test (bytes_eq n name) refl l (prefix_at name ns)
+  where
+    by_test : (t : Bool) → bytes_eq n name ≡ t → cond (not t) (1 + position_or_len (λ other. bytes_eq other name) ns) 0 < suc (length ns)
+        → (position_or_len (λ other. bytes_eq other name) ns < length ns → slice_get ns (position_or_len (λ other. bytes_eq other name) ns) ≡ Some name)
+        → slice_get (n ∷ ns) (cond (not t) (1 + position_or_len (λ other. bytes_eq other name) ns) 0) ≡ Some name
+    by_test true t l later = ap Some ((bytes_eq-Decides n name).0 t)
+    by_test false t l later =
+        let up : 1 + position_or_len (λ other. bytes_eq other name) ns ≡ suc (position_or_len (λ other. bytes_eq other name) ns) = omega arith in
+        rw up (later (omega arith))
+
+place_found : (name : List ℕ) (names : List (List ℕ)) (at : ℕ) → place_of names name ≡ Some at → slice_get names at ≡ Some name
+place_found name names at e = by_test (nat_lt (position_or_len (λ other. bytes_eq other name) names) (length names)) refl e
+  where
+    by_test : (t : Bool) → nat_lt (position_or_len (λ other. bytes_eq other name) names) (length names) ≡ t
+        → cond t (Some (position_or_len (λ other. bytes_eq other name) names)) None ≡ Some at → slice_get names at ≡ Some name
+    by_test true t e =
+        let less : position_or_len (λ other. bytes_eq other name) names < length names = grind (arith, nat_tests) in
+        let same : position_or_len (λ other. bytes_eq other name) names ≡ at = cc in
+        subst (λ (k : ℕ). slice_get names k ≡ Some name) same (prefix_at name names less)
+    by_test false t e = absurd (cc)
+
+order_clash : (names : List (List ℕ)) (edges : List (ℕ × ℕ)) (error : OrderError) → IsOrder names edges → IsRefused names edges error → (error ≡ refusals.Memory → ⊥) → ⊥
+order_clash names edges refusals.NoRoles o r m =
+    let l : 1 ≤ length names = o.are_names.counted.0 in let z : length names ≡ 0 = ap length r in absurd (omega arith)
+order_clash names edges (refusals.TooManyRoles count) o r m = let l = o.are_names.counted.1 in let k = r.0 in absurd (omega arith)
+order_clash names edges (refusals.BadName place) o r m = false≢true (sym r.1.holds ∙ each_at (λ name. is_role_name name ≡ true) names place r.1.item o.are_names.named r.1.at)
+order_clash names edges (refusals.SameName first second) o r m =
+    let at = get_taken names second first r.2.name (place_found r.2.name (take second names) first r.2.before) in
+    let same = o.are_names.different first second r.2.name at.1 r.2.at in
+    absurd (omega (arith, at.0, same))
+order_clash names edges (refusals.EdgeOutOfRange place) o r m = r.1.holds (each_at (IsEdge (length names)) edges place r.1.item o.ends r.1.at)
+order_clash names edges (refusals.Cycle place) o r m = o.acyclic place r.2.edge r.2.at r.2.back
+order_clash names edges refusals.Memory o r m = m refl
+
+-- lines
+
+named_clash : (names : List (List ℕ)) (name : List ℕ) (role : ℕ) → Names names name role → IsUnknown names name → ⊥
+named_clash names name role h k = absurd (cc)
+
+range_clash : (names : List (List ℕ)) (written : NamedRange) → (low high : ℕ) → Names names written.low low → Names names written.high high → IsUnknown names written.low ⊎ IsUnknown names written.high → ⊥
+range_clash names written low high h k (inl u) = named_clash names written.low low h u
+range_clash names written low high h k (inr u) = named_clash names written.high high k u
+
+each_clash : (names words : List (List ℕ)) (roles : List ℕ) → NameEach names words roles → Some_of (IsUnknown names) words → ⊥
+each_clash names [] roles h u = u
+each_clash names (word ∷ words) roles h (inl u) = named_clash names word h.0 h.2 u
+each_clash names (word ∷ words) roles h (inr u) = each_clash names words h.1 h.3 u
+
+known_clash : (run next : RunValue) (shape : Shape) → Gains run shape next → HasUnknown run.names shape → ⊥
+known_clash run next (a_role name) g u = u
+known_clash run next (an_edge senior junior) g (inl u) = named_clash run.names senior g.0.0 g.1 u
+known_clash run next (an_edge senior junior) g (inr u) = named_clash run.names junior g.0.1 g.2 u
+known_clash run next (an_assign admin range condition) g (inl u) = named_clash run.names admin g.0.admin g.1 u
+known_clash run next (an_assign admin range condition) g (inr u) = range_clash run.names range g.0.range.low g.0.range.high g.2.low g.2.high u
+known_clash run next (a_revoke admin range) g (inl u) = named_clash run.names admin g.0.admin g.1 u
+known_clash run next (a_revoke admin range) g (inr u) = range_clash run.names range g.0.range.low g.0.range.high g.2.low g.2.high u
+known_clash run next (a_user words) g u = each_clash run.names words g.1.roles g.1.named u
+known_clash run next (an_act kind admin target role) g u = named_clash run.names role g.0.role g.4 u
+known_clash run next (a_goal condition) g u = u
+
+condition_clash : (run next : RunValue) (shape : Shape) (error : CondError) → Gains run shape next → HasCondFault run.names shape error → ⊥
+condition_clash run next (an_assign admin range condition) error g f = says_clash run.names condition g.0.cond error g.3 f.0 f.1
+condition_clash run next (a_goal condition) error g f = says_clash run.names condition g.0 error g.1 f.0 f.1
+condition_clash run next (a_role name) error g f = f
+condition_clash run next (an_edge senior junior) error g f = f
+condition_clash run next (a_revoke admin range) error g f = f
+condition_clash run next (a_user words) error g f = f
+condition_clash run next (an_act kind admin target role) error g f = f
+
+-- two forms with one spelling are one
+pub spell_one : (a b : Shape) → IsShape a → IsShape b → spell a ≡ spell b → a ≡ b
+spell_one a b h k e = let s : Some a ≡ Some b = sym (form_found a h) ∙ ap shape_of e ∙ form_found b k in cc
+
+no_last : (shape : Shape) → IsShape shape → spell shape ≡ codes "end" → ⊥
+no_last shape h e = no_end (spell shape) shape (form_found shape h) e
+
+adds_clash : (run next : RunValue) (line : List ℕ) (shape : Shape) (number : ℕ) (fault : RunError) → IsShape shape → spell shape ≡ line → Adds run shape next → (fault ≡ Memory → ⊥) → IsLineFault run line number fault → ⊥
+adds_clash run next line shape number (BadLine at) h s a m f = f.1 shape (record { formed = h; spelled = s; place = a.place })
+adds_clash run next line shape number (TooMany at) h s a m f =
+    f.3 (subst (HasRoom run) (spell_one shape f.1 h f.2.formed (s ∙ sym f.2.spelled)) a.room)
+adds_clash run next line shape number (UnknownRole at) h s a m f =
+    known_clash run next f.1 (subst (λ (t : Shape). Gains run t next) (spell_one shape f.1 h f.2.formed (s ∙ sym f.2.spelled)) a.gains) f.4
+adds_clash run next line shape number (Cond at error) h s a m f =
+    condition_clash run next f.1 error (subst (λ (t : Shape). Gains run t next) (spell_one shape f.1 h f.2.formed (s ∙ sym f.2.spelled)) a.gains) f.5
+adds_clash run next line shape number (Order error) h s a m f = f
+adds_clash run next line shape number Unended h s a m f = f
+adds_clash run next line shape number Memory h s a m f = m refl
+
+end_clash : (run : RunValue) (line : List ℕ) (number : ℕ) (fault : RunError) → line ≡ codes "end" → 1 ≤ length run.goal → (fault ≡ Memory → ⊥) → IsLineFault run line number fault → ⊥
+end_clash run line number (BadLine at) e g m f = let z : length run.goal ≡ 0 = f.2 e in absurd (omega arith)
+end_clash run line number (TooMany at) e g m f = no_last f.1 f.2.formed (f.2.spelled ∙ e)
+end_clash run line number (UnknownRole at) e g m f = no_last f.1 f.2.formed (f.2.spelled ∙ e)
+end_clash run line number (Cond at error) e g m f = no_last f.1 f.2.formed (f.2.spelled ∙ e)
+end_clash run line number (Order error) e g m f = f
+end_clash run line number Unended e g m f = f
+end_clash run line number Memory e g m f = m refl
+
+-- the line is one more right line on the way to the last run
+record IsOnTheWay (mid : RunValue) (line : List ℕ) (last : RunValue) : Type 0 where
+  shape : Shape
+  formed : IsShape shape
+  spelled : spell shape ≡ line
+  next : RunValue
+  adds : Adds mid shape next
+  more : List Shape
+  each : Each IsShape more
+  rest : AddAll next more last
+
+same_cons : {A : Type 0} (x y : A) (xs ys : List A) → x ∷ xs ≡ y ∷ ys → (x ≡ y) × (xs ≡ ys)
+same_cons x y xs ys e = (cc, cc)
+
+-- right lines before a line, and all right lines before the last one, tell what the line is
+aligned : (before all : List Shape) (run mid last : RunValue) (line : List ℕ) (later : List (List ℕ)) → Each IsShape before → Each IsShape all
+    → map spell before ++ (line ∷ later) ≡ map spell all ++ (codes "end" ∷ []) → AddAll run before mid → AddAll run all last
+    → IsOnTheWay mid line last ⊎ ((line ≡ codes "end") × (later ≡ []) × (mid ≡ last))
+aligned [] [] run mid last line later hb ha e b a = let s = same_cons line (codes "end") later [] e in inr (s.0, s.1, b ∙ sym a)
+aligned [] (shape ∷ more) run mid last line later hb ha e b a =
+    let s = same_cons line (spell shape) later (map spell more ++ (codes "end" ∷ [])) e in
+    inl (record { shape = shape; formed = ha.0; spelled = sym s.0; next = a.0; adds = subst (λ (r : RunValue). Adds r shape a.0) (sym b) a.1; more = more; each = ha.1; rest = a.2 })
+aligned (shape ∷ before) [] run mid last line later hb ha e b a =
+    absurd (no_last shape hb.0 (same_cons (spell shape) (codes "end") (map spell before ++ (line ∷ later)) [] e).0)
+aligned (shape ∷ before) (other ∷ all) run mid last line later hb ha e b a =
+    let s = same_cons (spell shape) (spell other) (map spell before ++ (line ∷ later)) (map spell all ++ (codes "end" ∷ [])) e in
+    let one : shape ≡ other = spell_one shape other hb.0 ha.0 s.0 in
+    let next : b.0 ≡ a.0 = gains_one run b.0 a.0 other (subst (λ (t : Shape). Gains run t b.0) one b.1.gains) a.1.gains in
+    aligned before all a.0 mid last line later hb.1 ha.1 s.1 (subst (λ (r : RunValue). AddAll r before mid) next b.2) a.2
+
+-- the last line is no form's
+unaligned : (before all : List Shape) → Each IsShape before → map spell before ++ [] ≡ map spell all ++ (codes "end" ∷ []) → ⊥
+unaligned [] [] h e = absurd (cc)
+unaligned [] (other ∷ all) h e = absurd (cc)
+unaligned (shape ∷ before) [] h e = no_last shape h.0 (same_cons (spell shape) (codes "end") (map spell before ++ []) [] e).0
+unaligned (shape ∷ before) (other ∷ all) h e = unaligned before all h.1 (same_cons (spell shape) (spell other) (map spell before ++ []) (map spell all ++ (codes "end" ∷ [])) e).1
+
+-- the lines of two readings of one text
+same_lines : (bytes : List ℕ) (run last : RunValue) (n m : ℕ) (left : List (List ℕ)) (part : List ℕ) → (r : IsReadTo bytes run n left part) → (s : IsReadTo bytes last m (codes "end" ∷ []) [])
+    → (map spell r.lines ++ left ≡ map spell s.lines ++ (codes "end" ∷ [])) × (part ≡ [])
+same_lines bytes run last n m left part r s =
+    let e = sym r.text ∙ s.text in
+    ((same_cons (codes "run 1") (codes "run 1") _ _ (ap (λ (p : List (List ℕ) × List ℕ). p.0) e)).1, ap (λ (p : List (List ℕ) × List ℕ). p.1) e)
+
+-- a text stands for one run at most
+pub one_run : (bytes : List ℕ) (a b : RunValue) → StandsFor bytes a → StandsFor bytes b → a ≡ b
+one_run bytes a b h k =
+    let s = same_lines bytes a b h.number k.number (codes "end" ∷ []) [] h.read k.read in
+    by_case (aligned h.read.lines k.read.lines nothing a b (codes "end") [] h.read.formed k.read.formed s.0 h.read.added k.read.added)
+  where
+    by_case : IsOnTheWay a (codes "end") b ⊎ ((codes "end" ≡ codes "end") × (◌≡◌ {A = List (List ℕ)} [] []) × (a ≡ b)) → a ≡ b
+    by_case (inl w) = absurd (no_last w.shape w.formed w.spelled)
+    by_case (inr e) = e.2
+
+-- what lines behind the role order keep
+keep_one : (run next : RunValue) (shape : Shape) → tells_order shape ≡ false → Gains run shape next → (next.names ≡ run.names) × (next.edges ≡ run.edges)
+keep_one run next (a_role name) t g = absurd (cc)
+keep_one run next (an_edge senior junior) t g = absurd (cc)
+keep_one run next (an_assign admin range condition) t g = (ap (λ (r : RunValue). r.names) g.4, ap (λ (r : RunValue). r.edges) g.4)
+keep_one run next (a_revoke admin range) t g = (ap (λ (r : RunValue). r.names) g.3, ap (λ (r : RunValue). r.edges) g.3)
+keep_one run next (a_user words) t g = (ap (λ (r : RunValue). r.names) g.2, ap (λ (r : RunValue). r.edges) g.2)
+keep_one run next (an_act kind admin target role) t g = (ap (λ (r : RunValue). r.names) g.5, ap (λ (r : RunValue). r.edges) g.5)
+keep_one run next (a_goal condition) t g = (ap (λ (r : RunValue). r.names) g.2, ap (λ (r : RunValue). r.edges) g.2)
+
+no_order : (run : RunValue) (shape : Shape) → (behind_edges run ≡ 0 → ⊥) → MayStand run shape → tells_order shape ≡ false
+no_order run (a_role name) late p = absurd (late (second (length run.edges) (behind_edges run) p))
+  where
+    second : (a b : ℕ) → a + b ≡ 0 → b ≡ 0
+    second a b e = omega arith
+no_order run (an_edge senior junior) late p = absurd (late p.0)
+no_order run (an_assign admin range condition) late p = refl
+no_order run (a_revoke admin range) late p = refl
+no_order run (a_user words) late p = refl
+no_order run (an_act kind admin target role) late p = refl
+no_order run (a_goal condition) late p = refl
+
+still_late : (run next : RunValue) (shape : Shape) → IsShape shape → tells_order shape ≡ false → Adds run shape next → behind_edges next ≡ 0 → ⊥
+still_late run next shape h t a =
+    begun run next (spell shape) (record { shape = shape; formed = h; spelled = refl; adds = a }) (λ o. absurd (false≢true (sym t ∙ sym (order_line_is shape) ∙ o)))
+
+keep_all : (run last : RunValue) (lines : List Shape) → Each IsShape lines → (behind_edges run ≡ 0 → ⊥) → AddAll run lines last → (last.names ≡ run.names) × (last.edges ≡ run.edges)
+keep_all run last [] h late a = (ap (λ (r : RunValue). r.names) a, ap (λ (r : RunValue). r.edges) a)
+keep_all run last (line ∷ lines) h late a =
+    let t = no_order run line late a.1.place in
+    let k = keep_one run a.0 line t a.1.gains in
+    let l = keep_all a.0 last lines h.1 (still_late run a.0 line h.0 t a.1) a.2 in
+    (l.0 ∙ k.0, l.1 ∙ k.1)
+
+-- at a line that is at fault no text stands for a run
+inside_clash : (bytes : List ℕ) (value : RunValue) (fault : RunError) → StandsFor bytes value → (fault ≡ Memory → ⊥) → IsFaultInside bytes fault → ⊥
+inside_clash bytes value fault h m f =
+    let s = same_lines bytes f.run value f.number h.number (f.line ∷ f.later) f.part f.read h.read in
+    by_case (aligned f.read.lines h.read.lines nothing f.run value f.line f.later f.read.formed h.read.formed s.0 f.read.added h.read.added)
+  where
+    by_case : IsOnTheWay f.run f.line value ⊎ ((f.line ≡ codes "end") × (f.later ≡ []) × (f.run ≡ value)) → ⊥
+    by_case (inl w) = adds_clash f.run w.next f.line w.shape f.number fault w.formed w.spelled w.adds m f.fault_is
+    by_case (inr e) = end_clash f.run f.line f.number fault e.0 (subst (λ (r : RunValue). 1 ≤ length r.goal) (sym e.2) h.goal) m f.fault_is
+
+ahead_clash : (bytes : List ℕ) (value : RunValue) (at : ℕ) → StandsFor bytes value → IsFaultAhead bytes at → ⊥
+ahead_clash bytes value at h f = f.other (same_cons f.line (codes "run 1") f.later _ (ap (λ (p : List (List ℕ) × List ℕ). p.0) (sym f.text ∙ h.read.text))).0
+
+behind_clash : (bytes : List ℕ) (value : RunValue) (at : ℕ) → StandsFor bytes value → IsFaultBehind bytes at → ⊥
+behind_clash bytes value at h f =
+    let s = same_lines bytes f.run value f.number h.number (codes "end" ∷ f.later) f.part f.read h.read in
+    by_case s.1 (aligned f.read.lines h.read.lines nothing f.run value (codes "end") f.later f.read.formed h.read.formed s.0 f.read.added h.read.added)
+  where
+    by_case : f.part ≡ [] → IsOnTheWay f.run (codes "end") value ⊎ ((codes "end" ≡ codes "end") × (f.later ≡ []) × (f.run ≡ value)) → ⊥
+    by_case p (inl w) = no_last w.shape w.formed w.spelled
+    by_case p (inr e) = f.more (e.1, p)
+
+order_fault_clash : (bytes : List ℕ) (value : RunValue) (error : OrderError) → StandsFor bytes value → IsOrderFault bytes error → ⊥
+order_fault_clash bytes value error h f =
+    let s = same_lines bytes f.run value f.number h.number f.left f.part f.read h.read in
+    by_left f.left f.ends s.0
+  where
+    kept : value.names ≡ f.run.names → value.edges ≡ f.run.edges → ⊥
+    kept n e =
+        let P : List (List ℕ) → Type 0 = λ names. IsOrder names f.run.edges in
+        let Q : List (ℕ × ℕ) → Type 0 = λ edges. IsOrder value.names edges in
+        order_clash f.run.names f.run.edges error (subst P n (subst Q e h.order)) f.refused f.told
+
+    by_case : (line : List ℕ) (later : List (List ℕ)) → is_order_line line ≡ false → IsOnTheWay f.run line value ⊎ ((line ≡ codes "end") × (later ≡ []) × (f.run ≡ value)) → ⊥
+    by_case line later o (inl w) =
+        let t : tells_order w.shape ≡ false = sym (order_line_is w.shape) ∙ ap is_order_line w.spelled ∙ o in
+        let k = keep_one f.run w.next w.shape t w.adds.gains in
+        let l = keep_all w.next value w.more w.each (still_late f.run w.next w.shape w.formed t w.adds) w.rest in
+        kept (l.0 ∙ k.0) (l.1 ∙ k.1)
+    by_case line later o (inr e) = kept (ap (λ (r : RunValue). r.names) (sym e.2)) (ap (λ (r : RunValue). r.edges) (sym e.2))
+
+    by_left : (left : List (List ℕ)) → EndsOrder left → map spell f.read.lines ++ left ≡ map spell h.read.lines ++ (codes "end" ∷ []) → ⊥
+    by_left [] o e = unaligned f.read.lines h.read.lines f.read.formed e
+    by_left (line ∷ later) o e = by_case line later o (aligned f.read.lines h.read.lines nothing f.run value line later f.read.formed h.read.formed e f.read.added h.read.added)
+
+unended_clash : (bytes : List ℕ) (value : RunValue) → StandsFor bytes value → IsUnended bytes → ⊥
+unended_clash bytes value h f =
+    unaligned f.read.lines h.read.lines f.read.formed (same_lines bytes f.run value f.number h.number [] f.part f.read h.read).0
+
+no_lines_clash : (bytes : List ℕ) (value : RunValue) → StandsFor bytes value → (split bytes).0 ≡ [] → ⊥
+no_lines_clash bytes value h e = let there = sym (ap (λ (p : List (List ℕ) × List ℕ). p.0) h.read.text) ∙ e in absurd (cc)
+
+-- a text that stands for a run has no fault
+pub first_clash : (bytes : List ℕ) (value : RunValue) (fault : RunError) → StandsFor bytes value → (fault ≡ Memory → ⊥) → IsFirstFault bytes fault → ⊥
+first_clash bytes value (BadLine at) h m (inl f) = ahead_clash bytes value at h f
+first_clash bytes value (BadLine at) h m (inr (inl f)) = inside_clash bytes value (BadLine at) h m f
+first_clash bytes value (BadLine at) h m (inr (inr f)) = behind_clash bytes value at h f
+first_clash bytes value (TooMany at) h m f = inside_clash bytes value (TooMany at) h m f
+first_clash bytes value (UnknownRole at) h m f = inside_clash bytes value (UnknownRole at) h m f
+first_clash bytes value (Cond at error) h m f = inside_clash bytes value (Cond at error) h m f
+first_clash bytes value (Order error) h m (inl f) = no_lines_clash bytes value h f.0
+first_clash bytes value (Order error) h m (inr f) = order_fault_clash bytes value error h f
+first_clash bytes value Unended h m f = unended_clash bytes value h f
+first_clash bytes value Memory h m f = m refl

@@ -1,0 +1,65 @@
+-- Numbers are read from their decimal digits, and from these alone.
+use Rattle.std.proofs.Common.{ℕ, ◌≡◌, ◌≢◌, ◌<◌, ◌≤◌, ◌+◌, ◌^◌, Bool, true, false, List, [], ◌∷◌, length, get_or, refl, arith, sym, ◌∙◌, ap, subst, Option, Some, None, eqb, ltb, zero, suc}
+use Rattle.std.specs.Prelude.{not, ◌&&◌, ◌||◌}
+use Rattle.std.specs.List.{list_all}
+use Rattle.std.specs.Char.{is_ascii_digit}
+use Rattle.std.specs.Fmt.{decimal}
+use Rattle.std.specs.Str.Parse.{digits_value}
+use Rattle.std.proofs.lemmas.Bool.{ne_eqb, eq-eqb, eqb-true}
+use Rattle.std.proofs.lemmas.Bool.Decides.{nat_tests}
+use Rattle.std.proofs.lemmas.Fmt.{digits_decimal, digits_value-decimal, decimal_nonempty, decimal_digit, first_decimal, decimal-digits_value}
+use Rattle.policy_text.specs.Spelling.{only_if, is_numeral, number_in}
+use Rattle.policy_text.proofs.LineLemmas.{Lacks}
+use Rattle.policy_text.proofs.WordLemmas.{own, and_left, and_right, lacks_other, digits_of, numeral_long}
+
+fits : (n : ℕ) → n < 2 ^ 32 → n < 2 ^ 64
+fits n h = omega arith
+
+leading : (n : ℕ) → n < 2 ^ 32 → (not (eqb (get_or (decimal n) 0 0) 48) || eqb (length (decimal n)) 1) ≡ true
+leading zero h = rw (decimal_digit 0 (omega arith)) refl
+leading (suc n) h =
+    let first : 48 < get_or (decimal (suc n)) 0 0 = first_decimal (suc n) (omega arith) (fits (suc n) h) in
+    let other : eqb (get_or (decimal (suc n)) 0 0) 48 ≡ false = ne_eqb (get_or (decimal (suc n)) 0 0) 48 (λ e. omega arith) in
+    rw other refl
+
+numeral_decimal : (n : ℕ) → n < 2 ^ 32 → is_numeral (decimal n) ≡ true
+unfolding is_numeral
+numeral_decimal n h =
+    let long : 0 < length (decimal n) = decimal_nonempty n (fits n h) in
+    let full : eqb (length (decimal n)) 0 ≡ false = ne_eqb (length (decimal n)) 0 (λ e. omega arith) in
+    let digits : list_all is_ascii_digit (decimal n) ≡ true = digits_decimal own n (fits n h) in
+    rw (digits, full, leading n h) refl
+
+-- a number is read from its digits
+pub number_found : (n : ℕ) → n < 2 ^ 32 → number_in (decimal n) ≡ Some n
+unfolding number_in
+number_found n h =
+    let small : ltb n (2 ^ 32) ≡ true = grind (arith, nat_tests) in
+    rw (numeral_decimal n h, digits_value-decimal own n (fits n h), small) refl
+
+-- no digit is another byte
+pub decimal_lacks : (sign n : ℕ) → is_ascii_digit sign ≡ false → n < 2 ^ 32 → Lacks sign (decimal n)
+decimal_lacks sign n out h = lacks_other is_ascii_digit sign (decimal n) out (digits_decimal own n (fits n h))
+
+unled : (text : List ℕ) → (not (eqb (get_or text 0 0) 48) || eqb (length text) 1) ≡ true → get_or text 0 0 ≡ 48 → length text ≡ 1
+unled text h first =
+    let same : eqb (get_or text 0 0) 48 ≡ true = eq-eqb (get_or text 0 0) 48 first in
+    eqb-true (length text) 1 (rw same at h)
+
+value_is : (text : List ℕ) → is_numeral text ≡ true → ltb (digits_value 10 text) (2 ^ 32) ≡ true → (digits_value 10 text < 2 ^ 32) × (decimal (digits_value 10 text) ≡ text)
+unfolding is_numeral
+value_is text numeral small =
+    let less : digits_value 10 text < 2 ^ 32 = grind (arith, nat_tests) in
+    (less, decimal-digits_value own text (digits_of text numeral) (numeral_long text numeral) (unled text (and_right _ _ numeral)) (fits (digits_value 10 text) less))
+
+-- what is read as a number is its digits
+pub number_is : (text : List ℕ) (n : ℕ) → number_in text ≡ Some n → (n < 2 ^ 32) × (decimal n ≡ text)
+unfolding number_in
+number_is text n e = by_test (is_numeral text && ltb (digits_value 10 text) (2 ^ 32)) refl e
+  where
+    by_test : (t : Bool) → (is_numeral text && ltb (digits_value 10 text) (2 ^ 32)) ≡ t → only_if t (digits_value 10 text) ≡ Some n → (n < 2 ^ 32) × (decimal n ≡ text)
+    by_test true t e =
+        let same : digits_value 10 text ≡ n = cc in
+        let P : ℕ → Type 0 = λ m. (m < 2 ^ 32) × (decimal m ≡ text) in
+        subst P same (value_is text (and_left (is_numeral text) _ t) (and_right (is_numeral text) _ t))
+    by_test false t e = absurd (cc)

@@ -1,0 +1,318 @@
+-- What is read as a form is a line that the form spells.
+use Rattle.std.proofs.Common.{ℕ, ◌≡◌, ◌<◌, ◌^◌, ◌⊎◌, inl, inr, Bool, true, false, List, [], ◌∷◌, ◌++◌, append_assoc, length, refl, arith, sym, ◌∙◌, ap, subst, Option, Some, None, eqb, cond}
+use Rattle.std.specs.Prelude.{codes, option_and_then}
+use Rattle.std.specs.Fmt.{decimal}
+use Rattle.std.specs.Str.{IsUtf8, is_utf8, bytes_eq}
+use Rattle.std.proofs.lemmas.Bool.{eqb-true}
+use Rattle.std.proofs.lemmas.Slice.Eq.{bytes_eq-Decides}
+use Rattle.std.proofs.lemmas.Str.{IsUtf8-from_is_utf8}
+use Rattle.role_order.specs.Lists.{Each}
+use Rattle.role_order.specs.Names.{is_name}
+use Rattle.arbac_policy.specs.declared.act.ActKind.{ActKind}
+use Rattle.arbac_policy.specs.declared.act.ActKind.TheVariants.{Assign, Weak, Strong}
+use Rattle.policy_text.specs.declared.line.Keyword.{Keyword}
+use Rattle.policy_text.specs.declared.line.Keyword.TheVariants as k
+use Rattle.policy_text.specs.Lines.{cut}
+use Rattle.policy_text.specs.Shapes.{Shape, NamedRange, a_role, an_edge, an_assign, a_revoke, a_user, an_act, a_goal, IsName, IsNamedRange, IsShape, spell, spell_kind, spell_range, spell_names}
+use Rattle.policy_text.specs.Spelling.{◌>>=◌, only_if, name_in, text_in, number_in, opening_in, closed_by, or_open, closing_in, range_in, kind_in, role_in, edge_in, assign_in, revoke_in, user_in, words, in_first, names_behind, act_in, goal_in, keyword_in, shape_with, shape_by, shape_of}
+use Rattle.policy_text.proofs.LineLemmas.{cut_joined, same_pair}
+use Rattle.policy_text.proofs.WordLemmas.{name_is, words_cut, words_one}
+use Rattle.policy_text.proofs.NumberLemmas.{number_is}
+
+-- a chain that comes to its end has come past each step
+step_of : {A B : Type 0} (o : Option A) (f : A → Option B) (y : B) → o >>= f ≡ Some y → (x : A) × (o ≡ Some x) × (f x ≡ Some y)
+step_of None f y e = absurd (cc)
+step_of (Some x) f y e = (x, refl, e)
+
+only_is : {A : Type 0} (t : Bool) (x y : A) → only_if t x ≡ Some y → (t ≡ true) × (x ≡ y)
+only_is true x y e = (refl, cc)
+only_is false x y e = absurd (cc)
+
+same_some : {A : Type 0} (x y : A) → Some x ≡ Some y → x ≡ y
+same_some x y e = cc
+
+named : (text name : List ℕ) → name_in text ≡ Some name → IsName name × (name ≡ text)
+named text name e = let n = name_is text name (sym e) in (subst IsName (sym n.1) n.0, n.1)
+
+a_text : (text found : List ℕ) → text_in text ≡ Some found → IsUtf8 found × (found ≡ text)
+unfolding text_in
+a_text text found e = let o = only_is (is_utf8 text) text found e in (subst IsUtf8 o.1 (IsUtf8-from_is_utf8 text o.0), sym o.1)
+
+-- the form is one, and the line is its spelling
+abbrev Spells : List ℕ → Shape → Type 0
+Spells line shape = IsShape shape × (spell shape ≡ line)
+
+cut_is : (sign : ℕ) (text : List ℕ) (p : List ℕ × List ℕ) → cut sign text ≡ Some p → p.0 ++ (sign ∷ p.1) ≡ text
+cut_is sign text p e = sym (cut_joined sign text p.0 p.1 e)
+
+start_is : (text : List ℕ) (p : Bool × List ℕ) → opening_in text ≡ Some p → (cond p.0 40 91) ∷ p.1 ≡ text
+unfolding opening_in
+start_is [] p e = absurd (cc)
+start_is (b ∷ bs) p e = by_square (eqb b 91) refl e
+  where
+    by_round : (t : Bool) → eqb b 40 ≡ t → cond t (Some (true, bs)) None ≡ Some p → (cond p.0 40 91) ∷ p.1 ≡ b ∷ bs
+    by_round true t e =
+        let same : (true, bs) ≡ p = cc in
+        let at : b ≡ 40 = eqb-true b 40 t in
+        let P : Bool × List ℕ → Type 0 = λ q. (cond q.0 40 91) ∷ q.1 ≡ b ∷ bs in
+        subst P same (ap (λ c. c ∷ bs) (sym at))
+    by_round false t e = absurd (cc)
+
+    by_square : (t : Bool) → eqb b 91 ≡ t → cond t (Some (false, bs)) (cond (eqb b 40) (Some (true, bs)) None) ≡ Some p → (cond p.0 40 91) ∷ p.1 ≡ b ∷ bs
+    by_square true t e =
+        let same : (false, bs) ≡ p = cc in
+        let at : b ≡ 91 = eqb-true b 91 t in
+        let P : Bool × List ℕ → Type 0 = λ q. (cond q.0 40 91) ∷ q.1 ≡ b ∷ bs in
+        subst P same (ap (λ c. c ∷ bs) (sym at))
+    by_square false t e = by_round (eqb b 40) refl e
+
+nothing_is : (xs : List ℕ) → eqb (length xs) 0 ≡ true → xs ≡ []
+nothing_is [] e = refl
+nothing_is (x ∷ xs) e = let none : length (x ∷ xs) ≡ 0 = eqb-true (length (x ∷ xs)) 0 e in absurd (omega arith)
+
+closed_is : (is_open : Bool) (sign : ℕ) (text : List ℕ) (p : List ℕ × Bool) → closed_by is_open (cut sign text) ≡ Some p → (p.0 ++ (sign ∷ []) ≡ text) × (p.1 ≡ is_open)
+closed_is is_open sign text p e = by_cut (cut sign text) refl e
+  where
+    by_cut : (o : Option (List ℕ × List ℕ)) → cut sign text ≡ o → closed_by is_open o ≡ Some p → (p.0 ++ (sign ∷ []) ≡ text) × (p.1 ≡ is_open)
+    by_cut None c e = absurd (cc)
+    by_cut (Some q) c e =
+        let o = only_is (eqb (length q.1) 0) (q.0, is_open) p e in
+        let whole : q.0 ++ (sign ∷ []) ≡ text = ap (λ t. q.0 ++ (sign ∷ t)) (sym (nothing_is q.1 o.0)) ∙ cut_is sign text q c in
+        let P : List ℕ × Bool → Type 0 = λ r. (r.0 ++ (sign ∷ []) ≡ text) × (r.1 ≡ is_open) in
+        subst P o.1 (whole, refl)
+
+end_is : (text : List ℕ) (p : List ℕ × Bool) → closing_in text ≡ Some p → p.0 ++ ((cond p.1 41 93) ∷ []) ≡ text
+unfolding closing_in
+end_is text p e = by_cut (cut 93 text) refl e
+  where
+    by_cut : (o : Option (List ℕ × List ℕ)) → cut 93 text ≡ o → or_open text o ≡ Some p → p.0 ++ ((cond p.1 41 93) ∷ []) ≡ text
+    by_cut None c e = let h = closed_is true 41 text p e in ap (λ t. p.0 ++ ((cond t 41 93) ∷ [])) h.1 ∙ h.0
+    by_cut (Some q) c e =
+        let h = closed_is false 93 text p (ap (closed_by false) c ∙ e) in
+        ap (λ t. p.0 ++ ((cond t 41 93) ∷ [])) h.1 ∙ h.0
+
+ranged : (text : List ℕ) (range : NamedRange) → range_in text ≡ Some range → IsNamedRange range × (spell_range range ≡ text)
+unfolding range_in
+ranged text range e =
+    let front = step_of (opening_in text) _ range e in
+    let ends = step_of (cut 44 front.0.1) _ range front.2 in
+    let low = step_of (name_in ends.0.0) _ range ends.2 in
+    let back = step_of (closing_in ends.0.1) _ range low.2 in
+    let high = step_of (name_in back.0.0) _ range back.2 in
+    let l = named ends.0.0 low.0 low.1 in
+    let h = named back.0.0 high.0 high.1 in
+    let made : NamedRange = record { low = low.0; high = high.0; low_open = front.0.0; high_open = back.0.1 } in
+    let same = same_some made range high.2 in
+    let P : NamedRange → Type 0 = λ r. IsNamedRange r × (spell_range r ≡ text) in
+    let spelled : spell_range made ≡ text =
+    ap (λ t. (cond front.0.0 40 91) ∷ (t ++ (44 ∷ (high.0 ++ ((cond back.0.1 41 93) ∷ []))))) l.1
+    ∙ ap (λ t. (cond front.0.0 40 91) ∷ (ends.0.0 ++ (44 ∷ (t ++ ((cond back.0.1 41 93) ∷ []))))) h.1
+    ∙ ap (λ t. (cond front.0.0 40 91) ∷ (ends.0.0 ++ (44 ∷ t))) (end_is ends.0.1 back.0 back.1)
+    ∙ ap (λ t. (cond front.0.0 40 91) ∷ t) (cut_is 44 front.0.1 ends.0 ends.1)
+    ∙ start_is text front.0 front.1 in
+    subst P same ((l.0, h.0), spelled)
+
+role_is : (rest : List ℕ) (shape : Shape) → role_in rest ≡ Some shape → Spells (codes "role " ++ rest) shape
+unfolding role_in spell
+role_is rest shape e =
+    let name = step_of (name_in rest) _ shape e in
+    let n = named rest name.0 name.1 in
+    let same : a_role name.0 ≡ shape = cc in
+    subst (Spells (codes "role " ++ rest)) same (n.0, ap (λ t. codes "role " ++ t) n.1)
+
+edge_is : (rest : List ℕ) (shape : Shape) → edge_in rest ≡ Some shape → Spells (codes "edge " ++ rest) shape
+unfolding edge_in spell
+edge_is rest shape e =
+    let words = step_of (cut 32 rest) _ shape e in
+    let senior = step_of (name_in words.0.0) _ shape words.2 in
+    let junior = step_of (name_in words.0.1) _ shape senior.2 in
+    let s = named words.0.0 senior.0 senior.1 in
+    let j = named words.0.1 junior.0 junior.1 in
+    let same = same_some (an_edge senior.0 junior.0) shape junior.2 in
+    subst (Spells (codes "edge " ++ rest)) same (
+      (s.0, j.0),
+      ap (λ t. codes "edge " ++ (t ++ (32 ∷ junior.0))) s.1 ∙ ap (λ t. codes "edge " ++ (words.0.0 ++ (32 ∷ t))) j.1
+          ∙ ap (λ t. codes "edge " ++ t) (cut_is 32 rest words.0 words.1),
+    )
+
+assign_is : (rest : List ℕ) (shape : Shape) → assign_in rest ≡ Some shape → Spells (codes "assign " ++ rest) shape
+unfolding assign_in spell
+assign_is rest shape e =
+    let first = step_of (cut 32 rest) _ shape e in
+    let admin = step_of (name_in first.0.0) _ shape first.2 in
+    let second = step_of (cut 32 first.0.1) _ shape admin.2 in
+    let range = step_of (range_in second.0.0) _ shape second.2 in
+    let condition = step_of (text_in second.0.1) _ shape range.2 in
+    let a = named first.0.0 admin.0 admin.1 in
+    let r = ranged second.0.0 range.0 range.1 in
+    let c = a_text second.0.1 condition.0 condition.1 in
+    let same = same_some (an_assign admin.0 range.0 condition.0) shape condition.2 in
+    subst (Spells (codes "assign " ++ rest)) same (
+      (a.0, r.0, c.0),
+      ap (λ t. codes "assign " ++ (t ++ (32 ∷ (spell_range range.0 ++ (32 ∷ condition.0))))) a.1
+          ∙ ap (λ t. codes "assign " ++ (first.0.0 ++ (32 ∷ (t ++ (32 ∷ condition.0))))) r.1
+          ∙ ap (λ t. codes "assign " ++ (first.0.0 ++ (32 ∷ (second.0.0 ++ (32 ∷ t))))) c.1
+          ∙ ap (λ t. codes "assign " ++ (first.0.0 ++ (32 ∷ t))) (cut_is 32 first.0.1 second.0 second.1)
+          ∙ ap (λ t. codes "assign " ++ t) (cut_is 32 rest first.0 first.1),
+    )
+
+revoke_is : (rest : List ℕ) (shape : Shape) → revoke_in rest ≡ Some shape → Spells (codes "revoke " ++ rest) shape
+unfolding revoke_in spell
+revoke_is rest shape e =
+    let first = step_of (cut 32 rest) _ shape e in
+    let admin = step_of (name_in first.0.0) _ shape first.2 in
+    let range = step_of (range_in first.0.1) _ shape admin.2 in
+    let a = named first.0.0 admin.0 admin.1 in
+    let r = ranged first.0.1 range.0 range.1 in
+    let same = same_some (a_revoke admin.0 range.0) shape range.2 in
+    subst (Spells (codes "revoke " ++ rest)) same (
+      (a.0, r.0),
+      ap (λ t. codes "revoke " ++ (t ++ (32 ∷ spell_range range.0))) a.1 ∙ ap (λ t. codes "revoke " ++ (first.0.0 ++ (32 ∷ t))) r.1
+          ∙ ap (λ t. codes "revoke " ++ t) (cut_is 32 rest first.0 first.1),
+    )
+
+-- the words with spaces before them
+in_first_spelled : (b : ℕ) (ws : List (List ℕ)) (bs : List ℕ) → spell_names ws ≡ 32 ∷ bs → spell_names (in_first b ws) ≡ 32 ∷ (b ∷ bs)
+in_first_spelled b [] bs e = absurd (cc)
+in_first_spelled b (w ∷ ws) bs e = let tail : w ++ spell_names ws ≡ bs = cc in ap (λ t. 32 ∷ (b ∷ t)) tail
+
+words_spelled : (rest : List ℕ) → spell_names (words rest) ≡ 32 ∷ rest
+unfolding words
+words_spelled [] = refl
+words_spelled (b ∷ bs) = by_byte (eqb b 32) refl (words_spelled bs)
+  where
+    by_byte : (t : Bool) → eqb b 32 ≡ t → spell_names (words bs) ≡ 32 ∷ bs → spell_names (cond t ([] ∷ words bs) (in_first b (words bs))) ≡ 32 ∷ (b ∷ bs)
+    by_byte true t tail = let at : b ≡ 32 = eqb-true b 32 t in ap (λ l. 32 ∷ l) (tail ∙ ap (λ c. c ∷ bs) (sym at))
+    by_byte false t tail = in_first_spelled b (words bs) bs tail
+
+each_append : (xs ys : List (List ℕ)) → Each IsName xs → Each IsName ys → Each IsName (xs ++ ys)
+each_append [] ys h k = k
+each_append (x ∷ xs) ys h k = (h.0, each_append xs ys h.1 k)
+
+names_are : (before more names : List (List ℕ)) → names_behind before more ≡ Some names → Each IsName before → Each IsName names × (before ++ more ≡ names)
+unfolding names_behind
+names_are before [] names e h =
+    let same : before ≡ names = cc in
+    (subst (Each IsName) same h, append_nil before ∙ same)
+  where
+    append_nil : (xs : List (List ℕ)) → xs ++ [] ≡ xs
+    append_nil [] = refl
+    append_nil (x ∷ xs) = ap (λ t. x ∷ t) (append_nil xs)
+names_are before (word ∷ more) names e h =
+    by_name (is_name word) refl e (λ f t. names_are (before ++ word ∷ []) more names f (each_append before (word ∷ []) h (t, tt)))
+  where
+    by_name : (t : Bool) → is_name word ≡ t → cond t (names_behind (before ++ word ∷ []) more) None ≡ Some names
+        → (names_behind (before ++ word ∷ []) more ≡ Some names → is_name word ≡ true → Each IsName names × ((before ++ word ∷ []) ++ more ≡ names)) → Each IsName names × (before ++ (word ∷ more) ≡ names)
+    by_name true t e later = let r = later e t in (r.0, sym (append_assoc before (word ∷ []) more) ∙ r.1)
+    by_name false t e later = absurd (cc)
+
+user_is : (rest : List ℕ) (shape : Shape) → user_in rest ≡ Some shape → Spells (codes "user " ++ rest) shape
+unfolding user_in spell
+user_is rest shape e =
+    let names = step_of (names_behind [] (words rest)) _ shape e in
+    let n = names_are [] (words rest) names.0 names.1 tt in
+    let same : a_user names.0 ≡ shape = cc in
+    subst (Spells (codes "user " ++ rest)) same (n.0, ap (λ t. codes "user" ++ spell_names t) (sym n.1) ∙ ap (λ t. codes "user" ++ t) (words_spelled rest))
+
+-- a word is what is found by it
+pick : {K : Type 0} (word text : List ℕ) (a b : K) (o : Option K) (spelled : K → List ℕ) → spelled a ≡ text → cond (bytes_eq word text) (Some a) o ≡ Some b → (o ≡ Some b → word ≡ spelled b) → word ≡ spelled b
+pick {K} word text a b o spelled is e later = by_test (bytes_eq word text) refl e
+  where
+    by_test : (t : Bool) → bytes_eq word text ≡ t → cond t (Some a) o ≡ Some b → word ≡ spelled b
+    by_test true t e =
+        let same : a ≡ b = cc in
+        (bytes_eq-Decides word text).0 t ∙ sym is ∙ ap spelled same
+    by_test false t e = later e
+
+kind_is : (word : List ℕ) (kind : ActKind) → kind_in word ≡ Some kind → word ≡ spell_kind kind
+unfolding kind_in
+kind_is word kind e =
+    pick word (codes "assign") Assign kind _ spell_kind refl e
+    (λ f. pick word (codes "weak") Weak kind _ spell_kind refl f
+    (λ g. pick word (codes "strong") Strong kind _ spell_kind refl g (λ h. absurd (cc))))
+
+act_is : (rest : List ℕ) (shape : Shape) → act_in rest ≡ Some shape → Spells (codes "act " ++ rest) shape
+unfolding act_in spell
+act_is rest shape e =
+    let first = step_of (cut 32 rest) _ shape e in
+    let kind = step_of (kind_in first.0.0) _ shape first.2 in
+    let second = step_of (cut 32 first.0.1) _ shape kind.2 in
+    let admin = step_of (number_in second.0.0) _ shape second.2 in
+    let third = step_of (cut 32 second.0.1) _ shape admin.2 in
+    let target = step_of (number_in third.0.0) _ shape third.2 in
+    let role = step_of (name_in third.0.1) _ shape target.2 in
+    let a = number_is second.0.0 admin.0 admin.1 in
+    let t = number_is third.0.0 target.0 target.1 in
+    let r = named third.0.1 role.0 role.1 in
+    let same = same_some (an_act kind.0 admin.0 target.0 role.0) shape role.2 in
+    subst (Spells (codes "act " ++ rest)) same (
+      (a.0, t.0, r.0),
+      ap (λ x. codes "act " ++ (x ++ (32 ∷ (decimal admin.0 ++ (32 ∷ (decimal target.0 ++ (32 ∷ role.0))))))) (sym (kind_is first.0.0 kind.0 kind.1))
+          ∙ ap (λ x. codes "act " ++ (first.0.0 ++ (32 ∷ (x ++ (32 ∷ (decimal target.0 ++ (32 ∷ role.0))))))) a.1
+          ∙ ap (λ x. codes "act " ++ (first.0.0 ++ (32 ∷ (second.0.0 ++ (32 ∷ (x ++ (32 ∷ role.0))))))) t.1
+          ∙ ap (λ x. codes "act " ++ (first.0.0 ++ (32 ∷ (second.0.0 ++ (32 ∷ (third.0.0 ++ (32 ∷ x))))))) r.1
+          ∙ ap (λ x. codes "act " ++ (first.0.0 ++ (32 ∷ (second.0.0 ++ (32 ∷ x))))) (cut_is 32 second.0.1 third.0 third.1)
+          ∙ ap (λ x. codes "act " ++ (first.0.0 ++ (32 ∷ x))) (cut_is 32 first.0.1 second.0 second.1)
+          ∙ ap (λ x. codes "act " ++ x) (cut_is 32 rest first.0 first.1),
+    )
+
+goal_is : (rest : List ℕ) (shape : Shape) → goal_in rest ≡ Some shape → Spells (codes "goal " ++ rest) shape
+unfolding goal_in spell
+goal_is rest shape e =
+    let condition = step_of (text_in rest) _ shape e in
+    let c = a_text rest condition.0 condition.1 in
+    let same : a_goal condition.0 ≡ shape = cc in
+    subst (Spells (codes "goal " ++ rest)) same (c.0, ap (λ t. codes "goal " ++ t) c.1)
+
+abbrev keyword_text : Keyword → List ℕ
+keyword_text k.Role = codes "role"
+keyword_text k.Edge = codes "edge"
+keyword_text k.Assign = codes "assign"
+keyword_text k.Revoke = codes "revoke"
+keyword_text k.User = codes "user"
+keyword_text k.Act = codes "act"
+keyword_text k.Goal = codes "goal"
+
+keyword_is : (word : List ℕ) (keyword : Keyword) → keyword_in word ≡ Some keyword → word ≡ keyword_text keyword
+unfolding keyword_in
+keyword_is word keyword e =
+    pick word (codes "role") k.Role keyword _ keyword_text refl e
+    (λ e. pick word (codes "edge") k.Edge keyword _ keyword_text refl e
+    (λ e. pick word (codes "assign") k.Assign keyword _ keyword_text refl e
+    (λ e. pick word (codes "revoke") k.Revoke keyword _ keyword_text refl e
+    (λ e. pick word (codes "user") k.User keyword _ keyword_text refl e
+    (λ e. pick word (codes "act") k.Act keyword _ keyword_text refl e
+    (λ e. pick word (codes "goal") k.Goal keyword _ keyword_text refl e (λ e. absurd (cc))))))))
+
+-- a line with a keyword
+with_keyword : (keyword : Keyword) (rest : List ℕ) (shape : Shape) → shape_with (Some keyword) rest ≡ Some shape → Spells (keyword_text keyword ++ (32 ∷ rest)) shape
+with_keyword k.Role rest shape e = role_is rest shape e
+with_keyword k.Edge rest shape e = edge_is rest shape e
+with_keyword k.Assign rest shape e = assign_is rest shape e
+with_keyword k.Revoke rest shape e = revoke_is rest shape e
+with_keyword k.User rest shape e = user_is rest shape e
+with_keyword k.Act rest shape e = act_is rest shape e
+with_keyword k.Goal rest shape e = goal_is rest shape e
+
+nobody_is : (line : List ℕ) (shape : Shape) → only_if (bytes_eq line (codes "user")) (a_user []) ≡ Some shape → Spells line shape
+unfolding spell
+nobody_is line shape e =
+    let o = only_is (bytes_eq line (codes "user")) (a_user []) shape e in
+    subst (Spells line) o.1 (tt, sym ((bytes_eq-Decides line (codes "user")).0 o.0))
+
+-- what is read as a form is a line that the form spells
+pub form_is : (line : List ℕ) (shape : Shape) → shape_of line ≡ Some shape → IsShape shape × (spell shape ≡ line)
+unfolding shape_of
+form_is line shape e = by_cut (cut 32 line) refl e
+  where
+    by_keyword : (word rest : List ℕ) (o : Option Keyword) → keyword_in word ≡ o → shape_with o rest ≡ Some shape → Spells (word ++ (32 ∷ rest)) shape
+    by_keyword word rest None f e = absurd (cc)
+    by_keyword word rest (Some keyword) f e =
+        let P : List ℕ → Type 0 = λ t. Spells (t ++ (32 ∷ rest)) shape in
+        subst P (sym (keyword_is word keyword f)) (with_keyword keyword rest shape e)
+
+    by_cut : (o : Option (List ℕ × List ℕ)) → cut 32 line ≡ o → shape_by line o ≡ Some shape → Spells line shape
+    by_cut None c e = nobody_is line shape e
+    by_cut (Some p) c e =
+        let P : List ℕ → Type 0 = λ t. Spells t shape in
+        subst P (cut_is 32 line p c) (by_keyword p.0 p.1 (keyword_in p.0) refl e)

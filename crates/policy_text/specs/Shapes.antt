@@ -1,0 +1,87 @@
+-- The forms of the lines between the first line and the last, and how they are spelled.
+use Rattle.std.specs.Prelude.{ℕ, ◌≡◌, ◌<◌, ◌^◌, Bool, true, false, if◌then◌else◌, List, [], ◌∷◌, ◌++◌, codes}
+use Rattle.std.specs.Fmt.{decimal}
+use Rattle.std.specs.Str.{IsUtf8}
+use Rattle.role_order.specs.Lists.{Each}
+use Rattle.role_order.specs.Names.{is_name}
+use Rattle.arbac_policy.specs.declared.act.ActKind.{ActKind}
+use Rattle.arbac_policy.specs.declared.act.ActKind.TheVariants.{Assign, Weak, Strong}
+
+-- a range whose ends are named
+pub record NamedRange : Type 0 where
+  pub low : List ℕ
+  pub high : List ℕ
+  pub low_open : Bool
+  pub high_open : Bool
+
+-- a line as it is written: its names by their texts, and its condition by its text
+pub data Shape : Type 0 where
+  a_role : List ℕ → Shape
+  an_edge : List ℕ → List ℕ → Shape
+  an_assign : List ℕ → NamedRange → List ℕ → Shape
+  a_revoke : List ℕ → NamedRange → Shape
+  a_user : List (List ℕ) → Shape
+  an_act : ActKind → ℕ → ℕ → List ℕ → Shape
+  a_goal : List ℕ → Shape
+
+abbrev pub IsName : List ℕ → Type 0
+IsName text = is_name text ≡ true
+
+abbrev pub IsNamedRange : NamedRange → Type 0
+IsNamedRange range = IsName range.low × IsName range.high
+
+-- each name is a name, each number has 32 bits, and the condition is text
+abbrev pub IsShape : Shape → Type 0
+IsShape (a_role name) = IsName name
+IsShape (an_edge senior junior) = IsName senior × IsName junior
+IsShape (an_assign admin range condition) = IsName admin × IsNamedRange range × IsUtf8 condition
+IsShape (a_revoke admin range) = IsName admin × IsNamedRange range
+IsShape (a_user names) = Each IsName names
+IsShape (an_act kind admin target role) = (admin < 2 ^ 32) × (target < 2 ^ 32) × IsName role
+IsShape (a_goal condition) = IsUtf8 condition
+
+-- the line tells a role or an edge
+abbrev pub tells_order : Shape → Bool
+tells_order (a_role name) = true
+tells_order (an_edge senior junior) = true
+tells_order (an_assign admin range condition) = false
+tells_order (a_revoke admin range) = false
+tells_order (a_user names) = false
+tells_order (an_act kind admin target role) = false
+tells_order (a_goal condition) = false
+
+-- the bytes of the line's condition
+abbrev pub condition_of : Shape → List ℕ
+condition_of (an_assign admin range condition) = condition
+condition_of (a_goal condition) = condition
+condition_of (a_role name) = []
+condition_of (an_edge senior junior) = []
+condition_of (a_revoke admin range) = []
+condition_of (a_user names) = []
+condition_of (an_act kind admin target role) = []
+
+abbrev pub spell_kind : ActKind → List ℕ
+spell_kind Assign = codes "assign"
+spell_kind Weak = codes "weak"
+spell_kind Strong = codes "strong"
+
+-- an open end has a round bracket
+abbrev pub spell_range : NamedRange → List ℕ
+spell_range range =
+    (if range.low_open then 40 else 91) ∷ (range.low ++ (44 ∷ (range.high ++ ((if range.high_open then 41 else 93) ∷ []))))
+
+-- a space before each name
+abbrev pub spell_names : List (List ℕ) → List ℕ
+spell_names [] = []
+spell_names (name ∷ names) = 32 ∷ (name ++ spell_names names)
+
+-- the bytes of the line, without its line feed
+unfoldable pub spell : Shape → List ℕ
+spell (a_role name) = codes "role " ++ name
+spell (an_edge senior junior) = codes "edge " ++ (senior ++ (32 ∷ junior))
+spell (an_assign admin range condition) = codes "assign " ++ (admin ++ (32 ∷ (spell_range range ++ (32 ∷ condition))))
+spell (a_revoke admin range) = codes "revoke " ++ (admin ++ (32 ∷ spell_range range))
+spell (a_user names) = codes "user" ++ spell_names names
+spell (an_act kind admin target role) =
+    codes "act " ++ (spell_kind kind ++ (32 ∷ (decimal admin ++ (32 ∷ (decimal target ++ (32 ∷ role))))))
+spell (a_goal condition) = codes "goal " ++ condition

@@ -1,0 +1,348 @@
+//! The lines between the first line of a run text and its last.
+
+ghost use Rattle.std.specs.Prelude.{ℕ, ◌≡◌, ◌<◌, ◌^◌, [], IfOk, true, map};
+ghost use Rattle.std.specs.Char.{is_ascii_digit};
+ghost use Rattle.std.specs.List.{list_all};
+ghost use Rattle.std.specs.Option.{option_map};
+ghost use Rattle.role_order.specs.Names.{is_name_byte as is_byte, is_name as name};
+ghost use Rattle.policy_text.specs.Spelling.{name_in, text_in, is_numeral as numeral, number_in, opening_in, closing_in, closed_by, range_in, kind_in, role_in, edge_in, assign_in, revoke_in, user_in, names_behind, words, act_in, goal_in, keyword_in, shape_of};
+ghost use Rattle.policy_text.specs.Views.{range_view, shape_view};
+
+use crate::lines::{cut, is};
+use arbac_policy::ActKind;
+use std::alloc::{AllocError, Global};
+
+/// A range whose ends are named.
+#[derive(Clone, Copy)]
+pub struct NamedRange<'a> {
+    pub low: &'a str,
+    pub high: &'a str,
+    pub low_open: bool,
+    pub high_open: bool,
+}
+
+/// A line as it is written.
+#[derive(Drop)]
+pub enum Line<'a> {
+    Role(&'a str),
+    Edge {
+        senior: &'a str,
+        junior: &'a str,
+    },
+    Assign {
+        admin: &'a str,
+        range: NamedRange<'a>,
+        condition: &'a str,
+    },
+    Revoke {
+        admin: &'a str,
+        range: NamedRange<'a>,
+    },
+    User(Vec<&'a str>),
+    Act {
+        kind: ActKind,
+        admin: u32,
+        target: u32,
+        role: &'a str,
+    },
+    Goal(&'a str),
+}
+
+/// The first word of a line.
+#[derive(Clone, Copy)]
+pub enum Keyword {
+    Role,
+    Edge,
+    Assign,
+    Revoke,
+    User,
+    Act,
+    Goal,
+}
+
+fn is_name_byte(b: u8) -> bool
+    ensures { result ≡ is_byte b }
+{
+    matches!(b, b'A'..=b'Z' | b'a'..=b'z' | b'0'..=b'9' | b'_' | b'.' | b'-')
+}
+
+fn are_name_bytes(bytes: &[u8]) -> bool
+    ensures { result ≡ list_all is_byte bytes.now }
+{
+    bytes.iter().all(|b| is_name_byte(*b))
+}
+
+#[tactic(auto, unfolding(role_order::specs::Names::is_name))]
+fn is_name(bytes: &[u8]) -> bool
+    ensures { result ≡ name bytes.now }
+{
+    1 <= bytes.len() && bytes.len() <= 64 && are_name_bytes(bytes)
+}
+
+/// The bytes as a name, if they are one.
+#[tactic(auto, using(crate::proofs::WordLemmas::name_given, crate::proofs::WordLemmas::name_refused, crate::proofs::WordLemmas::name_unread))]
+fn name_of(bytes: &[u8]) -> Option<&str>
+    ensures { option_map (λ text. text.now) result ≡ name_in bytes.now }
+{
+    match str::from_utf8(bytes) {
+        Ok(text) => if is_name(bytes) { Some(text) } else { None },
+        Err(_) => None,
+    }
+}
+
+/// The bytes as text, if they are UTF-8.
+#[tactic(auto, using(crate::proofs::WordLemmas::text_given, crate::proofs::WordLemmas::text_refused))]
+fn text_of(bytes: &[u8]) -> Option<&str>
+    ensures { option_map (λ text. text.now) result ≡ text_in bytes.now }
+{
+    match str::from_utf8(bytes) {
+        Ok(text) => Some(text),
+        Err(_) => None,
+    }
+}
+
+fn are_digits(bytes: &[u8]) -> bool
+    ensures { result ≡ list_all is_ascii_digit bytes.now }
+{
+    bytes.iter().all(|b| b.is_ascii_digit())
+}
+
+/// Whether the bytes are decimal digits without a leading zero.
+#[tactic(auto, unfolding(crate::specs::Spelling::is_numeral))]
+fn is_numeral(bytes: &[u8]) -> bool
+    ensures { result ≡ numeral bytes.now }
+{
+    are_digits(bytes) && !bytes.is_empty() && (bytes[0] != b'0' || bytes.len() == 1)
+}
+
+/// The number of 32 bits that the bytes write in decimal digits.
+#[tactic(auto, using(crate::proofs::WordLemmas::number_refused, crate::proofs::WordLemmas::numeral_text))]
+fn number_of(bytes: &[u8]) -> Option<u32>
+    ensures { result ≡ number_in bytes.now }
+{
+    if !is_numeral(bytes) {
+        return None;
+    }
+    match str::from_utf8(bytes) {
+        Ok(text) => text.parse::<u32>().ok(),
+        Err(_) => None,
+    }
+}
+
+/// Whether the range's low end is open, and what stands behind its bracket.
+#[tactic(auto, unfolding(crate::specs::Spelling::opening_in))]
+fn opening_of(text: &[u8]) -> Option<(bool, &[u8])>
+    ensures { option_map (λ p. (p.0, p.1.now)) result ≡ opening_in text.now }
+{
+    match text {
+        [] => None,
+        [b'[', rest @ ..] => Some((false, rest)),
+        [b'(', rest @ ..] => Some((true, rest)),
+        [_, ..] => None,
+    }
+}
+
+fn closed_end<'a>(is_open: bool, found: Option<(&'a [u8], &'a [u8])>) -> Option<(&'a [u8], bool)>
+    ensures { option_map (λ p. (p.0.now, p.1)) result ≡ closed_by is_open (option_map (λ p. (p.0.now, p.1.now)) found.entry) }
+{
+    match found {
+        Some((name, rest)) => if rest.is_empty() {
+            Some((name, is_open))
+        } else {
+            None
+        },
+        None => None,
+    }
+}
+
+/// The range's high end, and whether it is open.
+#[tactic(auto, unfolding(crate::specs::Spelling::closing_in))]
+fn closing_of(text: &[u8]) -> Option<(&[u8], bool)>
+    ensures { option_map (λ p. (p.0.now, p.1)) result ≡ closing_in text.now }
+{
+    match cut(text, b']') {
+        Some(found) => closed_end(false, Some(found)),
+        None => closed_end(true, cut(text, b')')),
+    }
+}
+
+#[tactic(auto, unfolding(crate::specs::Spelling::range_in))]
+fn range_of(text: &[u8]) -> Option<NamedRange>
+    ensures { option_map range_view result ≡ range_in text.now }
+{
+    let (low_open, rest) = opening_of(text)?;
+    let (low, rest) = cut(rest, b',')?;
+    let low = name_of(low)?;
+    let (high, high_open) = closing_of(rest)?;
+    let high = name_of(high)?;
+    Some(NamedRange {
+        low,
+        high,
+        low_open,
+        high_open,
+    })
+}
+
+#[tactic(auto, unfolding(crate::specs::Spelling::kind_in))]
+fn kind_of(word: &[u8]) -> Option<ActKind>
+    ensures { result ≡ kind_in word.now }
+{
+    if is(word, "assign") {
+        Some(ActKind::Assign)
+    } else if is(word, "weak") {
+        Some(ActKind::Weak)
+    } else if is(word, "strong") {
+        Some(ActKind::Strong)
+    } else {
+        None
+    }
+}
+
+#[tactic(auto, unfolding(crate::specs::Spelling::role_in))]
+fn role_line(rest: &[u8]) -> Option<Line>
+    ensures { option_map shape_view result ≡ role_in rest.now }
+{
+    let name = name_of(rest)?;
+    Some(Line::Role(name))
+}
+
+#[tactic(auto, unfolding(crate::specs::Spelling::edge_in))]
+fn edge_line(rest: &[u8]) -> Option<Line>
+    ensures { option_map shape_view result ≡ edge_in rest.now }
+{
+    let (senior, junior) = cut(rest, b' ')?;
+    let senior = name_of(senior)?;
+    let junior = name_of(junior)?;
+    Some(Line::Edge { senior, junior })
+}
+
+#[tactic(auto, unfolding(crate::specs::Spelling::assign_in))]
+fn assign_line(rest: &[u8]) -> Option<Line>
+    ensures { option_map shape_view result ≡ assign_in rest.now }
+{
+    let (admin, rest) = cut(rest, b' ')?;
+    let admin = name_of(admin)?;
+    let (range, condition) = cut(rest, b' ')?;
+    let range = range_of(range)?;
+    let condition = text_of(condition)?;
+    Some(Line::Assign {
+        admin,
+        range,
+        condition,
+    })
+}
+
+#[tactic(auto, unfolding(crate::specs::Spelling::revoke_in))]
+fn revoke_line(rest: &[u8]) -> Option<Line>
+    ensures { option_map shape_view result ≡ revoke_in rest.now }
+{
+    let (admin, range) = cut(rest, b' ')?;
+    let admin = name_of(admin)?;
+    let range = range_of(range)?;
+    Some(Line::Revoke { admin, range })
+}
+
+#[tactic(auto, unfolding(crate::specs::Spelling::act_in))]
+fn act_line(rest: &[u8]) -> Option<Line>
+    ensures { option_map shape_view result ≡ act_in rest.now }
+{
+    let (kind, rest) = cut(rest, b' ')?;
+    let kind = kind_of(kind)?;
+    let (admin, rest) = cut(rest, b' ')?;
+    let admin = number_of(admin)?;
+    let (target, role) = cut(rest, b' ')?;
+    let target = number_of(target)?;
+    let role = name_of(role)?;
+    Some(Line::Act {
+        kind,
+        admin,
+        target,
+        role,
+    })
+}
+
+#[tactic(auto, unfolding(crate::specs::Spelling::goal_in))]
+fn goal_line(rest: &[u8]) -> Option<Line>
+    ensures { option_map shape_view result ≡ goal_in rest.now }
+{
+    let condition = text_of(rest)?;
+    Some(Line::Goal(condition))
+}
+
+/// The names between single spaces, if each is one.
+#[tactic(auto, using(crate::proofs::WordLemmas::names_more, crate::proofs::WordLemmas::names_stop, crate::proofs::WordLemmas::names_last, crate::proofs::WordLemmas::names_no_last, crate::proofs::LineLemmas::cut_shorter))]
+fn names_of<'a>(alloc: Global, text: &'a [u8]) -> Result<Option<Vec<&'a str>>, AllocError>
+    ensures { IfOk result (λ o. option_map (λ v. map (λ name. name.now) v.items) o ≡ names_behind [] (words text.now)) }
+{
+    let mut names = Vec::new(alloc);
+    let mut rest = text;
+    while let Some((word, after)) = cut(rest, b' ') {
+        let Some(name) = name_of(word) else {
+            return Ok(None);
+        };
+        names.push(name)?;
+        rest = after;
+    }
+    let Some(name) = name_of(rest) else {
+        return Ok(None);
+    };
+    names.push(name)?;
+    Ok(Some(names))
+}
+
+#[tactic(auto, unfolding(crate::specs::Spelling::user_in))]
+fn user_line(alloc: Global, rest: &[u8]) -> Result<Option<Line>, AllocError>
+    ensures { IfOk result (λ o. option_map shape_view o ≡ user_in rest.now) }
+{
+    match names_of(alloc, rest)? {
+        Some(names) => Ok(Some(Line::User(names))),
+        None => Ok(None),
+    }
+}
+
+#[tactic(auto, unfolding(crate::specs::Spelling::keyword_in))]
+fn keyword_of(word: &[u8]) -> Option<Keyword>
+    ensures { result ≡ keyword_in word.now }
+{
+    if is(word, "role") {
+        Some(Keyword::Role)
+    } else if is(word, "edge") {
+        Some(Keyword::Edge)
+    } else if is(word, "assign") {
+        Some(Keyword::Assign)
+    } else if is(word, "revoke") {
+        Some(Keyword::Revoke)
+    } else if is(word, "user") {
+        Some(Keyword::User)
+    } else if is(word, "act") {
+        Some(Keyword::Act)
+    } else if is(word, "goal") {
+        Some(Keyword::Goal)
+    } else {
+        None
+    }
+}
+
+/// The line that the bytes spell, if they spell one.
+#[tactic(auto, unfolding(crate::specs::Spelling::shape_of))]
+pub fn read_line(alloc: Global, line: &[u8]) -> Result<Option<Line>, AllocError>
+    ensures { IfOk result (λ o. option_map shape_view o ≡ shape_of line.now) }
+{
+    let Some((word, rest)) = cut(line, b' ') else {
+        return Ok(if is(line, "user") {
+            Some(Line::User(Vec::new(alloc)))
+        } else {
+            None
+        });
+    };
+    match keyword_of(word) {
+        Some(Keyword::Role) => Ok(role_line(rest)),
+        Some(Keyword::Edge) => Ok(edge_line(rest)),
+        Some(Keyword::Assign) => Ok(assign_line(rest)),
+        Some(Keyword::Revoke) => Ok(revoke_line(rest)),
+        Some(Keyword::User) => user_line(alloc, rest),
+        Some(Keyword::Act) => Ok(act_line(rest)),
+        Some(Keyword::Goal) => Ok(goal_line(rest)),
+        None => Ok(None),
+    }
+}

@@ -1,0 +1,124 @@
+//! Reading run texts.
+
+ghost use Rattle.std.specs.Prelude.{ℕ, ◌≡◌, ◌<◌, ◌≤◌, ◌+◌, ◌^◌, [], List, length, vec_len, IfOk, IfErr};
+ghost use Rattle.role_order.specs.Names.{texts};
+ghost use Rattle.role_order.specs.Refusals.{IsOrder};
+ghost use Rattle.arbac_policy.specs.Rules.{IsPolicy, AreCountable, policy_of as rules_of};
+ghost use Rattle.policy_text.specs.Runs.{RunValue, StandsFor, Reads, plain_of, IsForUsers, KeepsLimits, AreKnownGoals};
+ghost use Rattle.policy_text.specs.Faults.{IsFirstFault};
+ghost use Rattle.policy_text.specs.Steps.{IsOrderTold, run_view};
+
+use crate::body::{Body, read_body};
+use crate::lines::{cut, is};
+use crate::listing::{Listed, Listing, read_listing};
+use crate::run::Run;
+use crate::run_error::RunError;
+use arbac_policy::{CanAssign, CanRevoke, Policy};
+use role_order::{Order, OrderError};
+use std::alloc::Global;
+
+/// The role order of the names and edges.
+fn order_of(alloc: Global, listing: Listing) -> Result<Order, RunError>
+    requires names { vec_len listing.names < 2 ^ 32 }
+    requires edges { vec_len listing.edges < 2 ^ 32 }
+    ensures names { IfOk result (λ order. order.names ≡ texts listing.names.items) }
+    ensures edges { IfOk result (λ order. order.edges ≡ listing.edges.items) }
+    ensures order { IfOk result (λ order. IsOrder order.names order.edges) }
+    ensures refused { IfErr result (IsOrderTold (texts listing.names.items) listing.edges.items) }
+{
+    let Listing { names, edges } = listing;
+    match Order::new(alloc, names, edges) {
+        Ok(order) => Ok(order),
+        Err(OrderError::Memory) => Err(RunError::Memory),
+        Err(error) => Err(RunError::Order(error)),
+    }
+}
+
+/// The policy of these rules for users, without rules for permissions and without exclusive pairs.
+fn policy_of(alloc: Global, order: Order, assign: Vec<CanAssign>, revoke: Vec<CanRevoke>) -> Policy
+    requires known { IsPolicy (rules_of order assign.items revoke.items [] [] []) }
+    requires few { AreCountable (rules_of order assign.items revoke.items [] [] []) }
+    ensures { result ≡ rules_of order assign.items revoke.items [] [] [] }
+{
+    let policy = Policy::new(
+        order,
+        assign,
+        revoke,
+        Vec::new(alloc),
+        Vec::new(alloc),
+        Vec::new(alloc),
+    );
+    match policy {
+        Some(policy) => policy,
+        None => unreachable!(),
+    }
+}
+
+fn run_of(alloc: Global, order: Order, body: Body) -> Run
+    requires known { IsPolicy (rules_of order body.assign.items body.revoke.items [] [] []) }
+    requires few { AreCountable (rules_of order body.assign.items body.revoke.items [] [] []) }
+    ensures run { plain_of result ≡ run_view order body }
+    ensures rules { result.policy ≡ rules_of order body.assign.items body.revoke.items [] [] [] }
+{
+    let Body {
+        assign,
+        revoke,
+        start,
+        acts,
+        goal,
+    } = body;
+    Run {
+        policy: policy_of(alloc, order, assign, revoke),
+        start,
+        acts,
+        goal,
+    }
+}
+
+fn read(alloc: Global, bytes: &[u8]) -> Result<Run, RunError>
+    requires { length bytes.now < 2 ^ 32 }
+    ensures found { IfOk result (λ run. StandsFor bytes.now (plain_of run)) }
+    ensures users { IfOk result (λ run. IsForUsers run.policy) }
+    ensures first { IfErr result (IsFirstFault bytes.now) }
+{
+    let Some((line, rest)) = cut(bytes, b'\n') else {
+        return Err(RunError::Order(OrderError::NoRoles));
+    };
+    if !is(line, "run 1") {
+        return Err(RunError::BadLine { line: 1 });
+    }
+    let Listed {
+        listing,
+        rest,
+        number,
+    } = read_listing(alloc, rest)?;
+    let order = order_of(alloc, listing)?;
+    let body = read_body(alloc, &order, rest, number)?;
+    Ok(run_of(alloc, order, body))
+}
+
+/// The run that the text stands for, or its first fault.
+///
+/// Lines end in LF and stand in this order: `run 1`; `role NAME`; `edge SENIOR JUNIOR`;
+/// `assign ADMIN RANGE CONDITION`; `revoke ADMIN RANGE`; `user ROLE ROLE ..`;
+/// `act KIND ADMIN TARGET ROLE`, users by place from 0; `goal CONDITION`; `end`. Words are
+/// separated by one space. The form is this project's own.
+pub fn read_run(alloc: Global, bytes: &[u8]) -> Result<Run, RunError>
+    requires { length bytes.now < 2 ^ 32 }
+    // What is read is what the text stands for.
+    ensures found { IfOk result (λ run. StandsFor bytes.now (plain_of run)) }
+    // It has no rules for permissions and no exclusive pairs.
+    ensures users { IfOk result (λ run. IsForUsers run.policy) }
+    // Its tables keep their limits, and its goal has conditions, each on roles of the order.
+    ensures few { IfOk result (λ run. KeepsLimits (plain_of run)) }
+    ensures goal { IfOk result (λ run. 1 ≤ length run.goal.items) }
+    ensures known { IfOk result (λ run. AreKnownGoals (plain_of run)) }
+    // A text that stands for a run is read as that run.
+    ensures only { (run : RunValue) → StandsFor bytes.now run → Reads result run }
+    // An error is the first fault.
+    ensures first { IfErr result (IsFirstFault bytes.now) }
+    // A text stands for one run at most.
+    ensures one { (left right : RunValue) → StandsFor bytes.now left → StandsFor bytes.now right → left ≡ right }
+{
+    read(alloc, bytes)
+}
