@@ -1,1 +1,5 @@
 pub mod Texts
+pub mod Words
+pub mod Faults
+pub mod Answers
+pub mod Replies

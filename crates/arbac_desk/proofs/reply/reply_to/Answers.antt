@@ -1,0 +1,19 @@
+use Rattle.std.proofs.Common.{ℕ, ◌≡◌, ◌∙◌, ◌≤◌, inr, sym}
+use Rattle.std.proofs.lemmas.Bool.{false≢true}
+use Rattle.policy_text.specs.declared.run_error.RunError.TheVariants as runs
+use Rattle.arbac_desk.proofs.ReplyLemmas.{no_value}
+use Rattle.arbac_desk.proofs.reply.reply_to.Goals as goal
+
+pub returns-in_ok-malformed-in-Err : goal.returns-in_ok-malformed-in-Err
+returns-in_ok-malformed-in-Err c =
+    let told : c.in-Err.error ≡ runs.Memory → ⊥ = λ e. false≢true (sym c.if-is_memory.false ∙ c.is_memory.ensures.1 e) in
+    inr (
+  c.if-bytes-gt-MOST_RUN_BYTES.false,
+  c.in-Err.error,
+  record {
+    first = c.in-Err.ensures.first;
+    told = told;
+    none = no_value c.args.bytes.now c.in-Err.error c.in-Err.ensures.only told;
+  },
+  c.in_ok-malformed-in-Err.ensures,
+)

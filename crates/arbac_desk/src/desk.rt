@@ -1,0 +1,115 @@
+//! The top call.
+
+ghost use Rattle.std.specs.Prelude.{ℕ, ◌≡◌, ◌⊎◌, ◌↔◌, ◌≤◌, length, List, Option, Some, None, IfSome, OnOk, IfOk};
+ghost use Rattle.desk_ports.specs.Faults.{Rose};
+ghost use Rattle.desk_ports.specs.Sinks.{Took, TookFront};
+ghost use Rattle.arbac_desk.specs.Words.{run_named as named, usage_line};
+ghost use Rattle.arbac_desk.specs.Faults.{read_fault_line};
+ghost use Rattle.arbac_desk.specs.Replies.{RepliesTo, IsDone, IsUnmet, IsStopped, IsMalformed, IsReplyText, IsText};
+ghost use Rattle.policy_text.specs.Runs.{RunValue, StandsFor};
+ghost use Rattle.arbac_desk.specs.Answers.{status_of, text_of, Wrote, WroteFront, IsStatus};
+
+use crate::MOST_RUN_BYTES;
+use crate::faults::read_fault;
+use crate::reply::{Reply, reply_to};
+use crate::words::{run_named, usage};
+use desk_ports::{Shelf, ShelfError, Sink, SinkError};
+use std::alloc::{AllocError, Global};
+
+/// The number that the program exits with.
+pub type Status = u8;
+
+/// Writes the text, and gives the status where the sink took it all.
+fn say<O: Sink>(out: &mut O, text: &[u8], status: Status) -> Status
+    requires written { ¬ (status ≡ 5) }
+    requires room { ¬ (status ≡ 7) }
+    ensures said { result ≡ status → Took (O.taken out.old) (O.taken out.new) text.now }
+    ensures front { ¬ (result ≡ status) → TookFront (O.taken out.old) (O.taken out.new) text.now }
+    ensures fault { result ≡ 5 → Rose (O.faults out.old) (O.faults out.new) }
+    ensures known { (result ≡ status) ⊎ ((result ≡ 5) ⊎ (result ≡ 7)) }
+{
+    match out.put(text) {
+        Ok(()) => status,
+        Err(SinkError::Failed) => 5,
+        Err(SinkError::Memory) => 7,
+    }
+}
+
+/// Answers `replay` over the file of this name.
+fn replay_file<H: Shelf, O: Sink>(
+    alloc: Global,
+    name: &str,
+    shelf: &mut H,
+    out: &mut O,
+) -> Status
+    ensures done { result ≡ 0 → Wrote (O.taken out.old) (O.taken out.new) (λ text. IfSome (H.told shelf.old name.now) (λ bytes. IsDone bytes text)) }
+    ensures refused { result ≡ 21 → Wrote (O.taken out.old) (O.taken out.new)
+        (λ text. IfSome (H.told shelf.old name.now) (λ bytes. IsUnmet bytes text ⊎ IsStopped bytes text)) }
+    ensures malformed { result ≡ 3 → Wrote (O.taken out.old) (O.taken out.new)
+        (λ text. IfSome (H.told shelf.old name.now) (λ bytes. IsMalformed name.now bytes text)) }
+    ensures read_fault { result ≡ 4 → Rose (H.faults shelf.old) (H.faults shelf.new) × (H.missed shelf.new ≡ name.now)
+        × Wrote (O.taken out.old) (O.taken out.new) (λ text. text ≡ read_fault_line name.now) }
+    ensures write_fault { result ≡ 5 → Rose (O.faults out.old) (O.faults out.new) }
+    ensures front { (result ≡ 5) ⊎ (result ≡ 7) → WroteFront (O.taken out.old) (O.taken out.new)
+        (λ text. (text ≡ read_fault_line name.now) ⊎ IfSome (H.told shelf.old name.now) (IsReplyText name.now text)) }
+    ensures known { IsStatus result }
+    ensures words { ¬ (result ≡ 2) }
+{
+    match shelf.fetch(name, MOST_RUN_BYTES as u32) {
+        Ok(bytes) => match reply_to(alloc, name, &bytes) {
+            Ok(reply) => say(out, reply.text(), reply.status()),
+            Err(_) => 7,
+        },
+        Err(ShelfError::Failed) => match read_fault(alloc, name) {
+            Ok(line) => say(out, &line, 4),
+            Err(_) => 7,
+        },
+        Err(ShelfError::Memory) => 7,
+    }
+}
+
+/// Does all that the program does: answers the words, reads from the shelf, writes to the sink, and gives
+/// the status. The one written form is `replay RUN`.
+pub fn arbac_desk<H: Shelf, O: Sink>(
+    alloc: Global,
+    words: &[String],
+    shelf: &mut H,
+    out: &mut O,
+) -> Status
+    // The words are of no written form.
+    ensures usage { result ≡ 2 → named words.now ≡ None }
+    ensures unwritten { named words.now ≡ None → (result ≡ 2) ⊎ ((result ≡ 5) ⊎ (result ≡ 7)) }
+    ensures usage_text { result ≡ 2 → Took (O.taken out.old) (O.taken out.new) usage_line }
+
+    // The file is a run text whose acts are steps, one by one, to a population that meets the goal.
+    ensures done { result ≡ 0 → (name : List ℕ) × (named words.now ≡ Some name) × Wrote (O.taken out.old) (O.taken out.new)
+        (λ text. IfSome (H.told shelf.old name) (λ bytes. IsDone bytes text)) }
+
+    // It is a run text whose goal isn't met at the end, or one of whose acts is no step.
+    ensures refused { result ≡ 21 → (name : List ℕ) × (named words.now ≡ Some name) × Wrote (O.taken out.old) (O.taken out.new)
+        (λ text. IfSome (H.told shelf.old name) (λ bytes. IsUnmet bytes text ⊎ IsStopped bytes text)) }
+
+    // It is too long, or no run text.
+    ensures malformed { result ≡ 3 → (name : List ℕ) × (named words.now ≡ Some name) × Wrote (O.taken out.old) (O.taken out.new)
+        (λ text. IfSome (H.told shelf.old name) (λ bytes. IsMalformed name bytes text)) }
+
+    // A fault comes only where the count of the shelf, or of the sink, rose in this call.
+    ensures read_fault { result ≡ 4 → (name : List ℕ) × (named words.now ≡ Some name) × Rose (H.faults shelf.old) (H.faults shelf.new)
+        × (H.missed shelf.new ≡ name) × Wrote (O.taken out.old) (O.taken out.new) (λ text. text ≡ read_fault_line name) }
+    ensures write_fault { result ≡ 5 → Rose (O.faults out.old) (O.faults out.new) }
+
+    // After a write fault or want of memory a prefix of the text was written, or nothing.
+    ensures front { (result ≡ 5) ⊎ (result ≡ 7) → WroteFront (O.taken out.old) (O.taken out.new)
+        (IsText (named words.now) (H.told shelf.old)) }
+    ensures known { (result ≡ 2) ⊎ IsStatus result }
+
+    // A run text is answered, where no count rose and memory was there.
+    ensures answered { (name : List ℕ) → named words.now ≡ Some name → IfSome (H.told shelf.old name) (λ bytes.
+        (value : RunValue) → StandsFor bytes value → length bytes ≤ MOST_RUN_BYTES → ¬ Rose (H.faults shelf.old) (H.faults shelf.new) →
+        ¬ Rose (O.faults out.old) (O.faults out.new) → (result ≡ 0) ⊎ ((result ≡ 21) ⊎ (result ≡ 7))) }
+{
+    match run_named(words) {
+        Some(name) => replay_file(alloc, name, shelf, out),
+        None => say(out, usage().as_bytes(), 2),
+    }
+}

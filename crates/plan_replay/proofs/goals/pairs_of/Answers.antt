@@ -1,0 +1,24 @@
+use Rattle.std.proofs.Common.{rules, ℕ, ◌≡◌, ◌<◌, ◌^◌, ◌⊎◌, ◌↔◌, length, map, replicate, Contains, OnOk, IfOk, IfSome, IfNone, Some, ◌+◌, ◌-◌, ◌*◌, ◌≤◌, ◌/◌, ◌%◌, Bool, true, false, nat_eq, nat_lt, List, [], ◌∷◌, ◌++◌, slice_index_or, slice_set, bit_and, bit_or, Fits, w8, w32, w64, Bor, MutBor}
+use Rattle.role_order.specs.Lists.{Each}
+use Rattle.arbac_policy.specs.Truth.{term_of, IsKnown}
+use Rattle.arbac_policy.specs.Goals.{GoalMet}
+use Rattle.plan_replay.specs.GoalLists.{AreLeast, ArePairs, IsMetBy}
+use Rattle.std.proofs.Common.{sym, ap, subst, ◌∙◌}
+use Rattle.std.specs.Prelude.{slice_get}
+use Rattle.role_order.proofs.ListLemmas.{get_at}
+use Rattle.plan_replay.proofs.GoalLemmas.{get-map, length-map, conditions_more, conditions_whole}
+use Rattle.plan_replay.proofs.goals.pairs_of.Goals as goal
+
+-- src/goals.rt:48:5
+pub loop-place-preserved : goal.loop-place-preserved
+loop-place-preserved c =
+    let there : slice_get c.args.goal.now c.loop-place.place ≡ Some c.index-goal-place.result =
+        get_at c.args.goal.now c.loop-place.place c.index-goal-place.result c.loop-place-test.true ∙ ap Some (sym c.index-goal-place.is) in
+    conditions_more c.args.order.now.edges (map term_of c.args.goal.now) c.args.population.now c.loop-place.pairs.items c.put_pairs.new.pairs.items c.loop-place.place
+    (term_of c.index-goal-place.result) (get-map term_of c.args.goal.now c.loop-place.place c.index-goal-place.result there) c.loop-place.invariant c.in_ok-put_pairs.ensures
+
+-- src/goals.rt:36:1
+pub returns : goal.returns
+returns c =
+    let all : length (map term_of c.args.goal.now) ≤ c.loop-place.place = subst (λ n. n ≤ c.loop-place.place) (sym (length-map term_of c.args.goal.now)) c.loop-place-test.false in
+    conditions_whole c.args.order.now.edges (map term_of c.args.goal.now) c.args.population.now c.loop-place.pairs.items c.loop-place.place all c.loop-place.invariant
