@@ -1,6 +1,7 @@
 -- The reply to what was fetched, and to what the file holds.
 use Rattle.std.proofs.Common.{ℕ, ◌≡◌, ◌≤◌, ◌<◌, ◌+◌, ◌∙◌, List, [], ◌∷◌, length, take, refl, arith, zero, suc, sym, subst, ap, inl, inr, Option, Some, None}
-use Rattle.std.specs.Prelude.{◌⊎◌, IfSome}
+use Rattle.std.specs.Prelude.{◌⊎◌, IfSome, map}
+use Rattle.role_order.specs.Lists.{Each}
 use Rattle.arbac_desk.specs.declared.TheConstants.{MOST_RUN_BYTES}
 use Rattle.arbac_desk.specs.declared.reply.Reply.{Reply}
 use Rattle.arbac_desk.specs.declared.reply.Reply.TheVariants.{Done, Unmet, Stopped, Malformed}
@@ -9,6 +10,8 @@ use Rattle.arbac_desk.specs.Faults.{malformed_line, run_text}
 use Rattle.arbac_desk.specs.Replies.{IsDone, IsUnmet, IsStopped, IsMalformed, IsNoRun, IsReplyText, RepliesTo}
 use Rattle.policy_text.specs.declared.run_error.RunError.{RunError}
 use Rattle.policy_text.specs.declared.run_error.RunError.TheVariants as runs
+use Rattle.arbac_policy.specs.declared.cond.Cond.{Cond}
+use Rattle.arbac_policy.specs.Truth.{term_of, IsKnown}
 use Rattle.policy_text.specs.Runs.{RunValue, StandsFor}
 
 pub no_value : (bytes : List ℕ) (error : RunError) → ((value : RunValue) → StandsFor bytes value → error ≡ runs.Memory) → (error ≡ runs.Memory → ⊥) → (value : RunValue) → StandsFor bytes value → ⊥
@@ -113,3 +116,7 @@ if_answered name (Some bytes) result H O old new known malformed read write = λ
     by_status value stands few no_read no_write (inr (inr (inr (inl e)))) = absurd (no_read (read e))
     by_status value stands few no_read no_write (inr (inr (inr (inr (inl e))))) = absurd (no_write (write e))
     by_status value stands few no_read no_write (inr (inr (inr (inr (inr e))))) = inr (inr e)
+
+pub known_conds : (count : ℕ) (conds : List Cond) → Each (IsKnown count) (map term_of conds) → Each (λ cond. IsKnown count (term_of cond)) conds
+known_conds count [] known = known
+known_conds count (cond ∷ conds) known = (known.0, known_conds count conds known.1)

@@ -1,7 +1,7 @@
-use Rattle.std.proofs.Common.{ℕ, ◌≡◌, ◌∙◌, ◌≤◌, inr, sym}
+use Rattle.std.proofs.Common.{ℕ, ◌≡◌, ◌∙◌, ◌≤◌, inr, sym, length}
 use Rattle.std.proofs.lemmas.Bool.{false≢true}
 use Rattle.policy_text.specs.declared.run_error.RunError.TheVariants as runs
-use Rattle.arbac_desk.proofs.ReplyLemmas.{no_value}
+use Rattle.arbac_desk.proofs.ReplyLemmas.{no_value, known_conds}
 use Rattle.arbac_desk.proofs.reply.reply_to.Goals as goal
 
 pub returns-in_ok-malformed-in-Err : goal.returns-in_ok-malformed-in-Err
@@ -17,3 +17,6 @@ returns-in_ok-malformed-in-Err c =
   },
   c.in_ok-malformed-in-Err.ensures,
 )
+
+pub reply_to_run-requires-clause-known : goal.reply_to_run-requires-clause-known
+reply_to_run-requires-clause-known c = known_conds (length c.in-Ok.run'.policy.order.names) c.in-Ok.run'.goal.items c.in-Ok.ensures.known
