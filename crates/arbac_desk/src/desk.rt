@@ -36,12 +36,7 @@ fn say<O: Sink>(out: &mut O, text: &[u8], status: Status) -> Status
 }
 
 /// Answers `replay` over the file of this name.
-fn replay_file<H: Shelf, O: Sink>(
-    alloc: Global,
-    name: &str,
-    shelf: &mut H,
-    out: &mut O,
-) -> Status
+fn replay_file<H: Shelf, O: Sink>(alloc: Global, name: &str, shelf: &mut H, out: &mut O) -> Status
     ensures done { result ≡ 0 → Wrote (O.taken out.old) (O.taken out.new) (λ text. IfSome (H.told shelf.old name.now) (λ bytes. IsDone bytes text)) }
     ensures refused { result ≡ 21 → Wrote (O.taken out.old) (O.taken out.new)
         (λ text. IfSome (H.told shelf.old name.now) (λ bytes. IsUnmet bytes text ⊎ IsStopped bytes text)) }

@@ -4,6 +4,8 @@
 mod desk;
 mod faults;
 mod reply;
+#[cfg(test)]
+mod tests;
 mod texts;
 mod words;
 

@@ -56,7 +56,12 @@ fn put_at_rule(
 }
 
 /// Puts a word and a number behind the text.
-pub fn put_count(alloc: Global, text: &mut Vec<u8>, word: &str, number: u64) -> Result<(), AllocError>
+pub fn put_count(
+    alloc: Global,
+    text: &mut Vec<u8>,
+    word: &str,
+    number: u64,
+) -> Result<(), AllocError>
     ensures { OnOk result (text.new.items ≡ text.old.items ++ (word.now ++ decimal number)) }
 {
     put(text, word.as_bytes())?;

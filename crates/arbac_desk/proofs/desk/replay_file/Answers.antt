@@ -6,8 +6,7 @@ use Rattle.arbac_desk.proofs.desk.replay_file.Goals as goal
 
 pub returns-in-Ok-reply_to-clause-done : goal.returns-in-Ok-reply_to-clause-done
 returns-in-Ok-reply_to-clause-done g c = λ zero.
-    let status : c.say.result ≡ c.status.result = asked c.say.result c.status.result 0 c.say.ensures.known zero (λ e. absurd (omega arith)) (λ e. absurd (omega arith)) in
-    (
+    let status : c.say.result ≡ c.status.result = asked c.say.result c.status.result 0 c.say.ensures.known zero (λ e. absurd (omega arith)) (λ e. absurd (omega arith)) in (
       c.text.result.now,
       rw c.text.ensures (if_done c.args.name.now c.in-Ok-reply_to.reply _
           (if_replied c.args.name.now c.in-Ok.bytes.items c.in-Ok-reply_to.reply _ c.in-Ok.ensures.text (rw c.deref.ensures.value at c.in-Ok-reply_to.ensures))
@@ -17,8 +16,7 @@ returns-in-Ok-reply_to-clause-done g c = λ zero.
 
 pub returns-in-Ok-reply_to-clause-refused : goal.returns-in-Ok-reply_to-clause-refused
 returns-in-Ok-reply_to-clause-refused g c = λ refused.
-    let status : c.say.result ≡ c.status.result = asked c.say.result c.status.result 21 c.say.ensures.known refused (λ e. absurd (omega arith)) (λ e. absurd (omega arith)) in
-    (
+    let status : c.say.result ≡ c.status.result = asked c.say.result c.status.result 21 c.say.ensures.known refused (λ e. absurd (omega arith)) (λ e. absurd (omega arith)) in (
       c.text.result.now,
       rw c.text.ensures (if_refused c.args.name.now c.in-Ok-reply_to.reply _
           (if_replied c.args.name.now c.in-Ok.bytes.items c.in-Ok-reply_to.reply _ c.in-Ok.ensures.text (rw c.deref.ensures.value at c.in-Ok-reply_to.ensures))
@@ -28,8 +26,7 @@ returns-in-Ok-reply_to-clause-refused g c = λ refused.
 
 pub returns-in-Ok-reply_to-clause-malformed : goal.returns-in-Ok-reply_to-clause-malformed
 returns-in-Ok-reply_to-clause-malformed g c = λ malformed.
-    let status : c.say.result ≡ c.status.result = asked c.say.result c.status.result 3 c.say.ensures.known malformed (λ e. absurd (omega arith)) (λ e. absurd (omega arith)) in
-    (
+    let status : c.say.result ≡ c.status.result = asked c.say.result c.status.result 3 c.say.ensures.known malformed (λ e. absurd (omega arith)) (λ e. absurd (omega arith)) in (
       c.text.result.now,
       rw c.text.ensures (if_malformed c.args.name.now c.in-Ok-reply_to.reply _
           (if_replied c.args.name.now c.in-Ok.bytes.items c.in-Ok-reply_to.reply _ c.in-Ok.ensures.text (rw c.deref.ensures.value at c.in-Ok-reply_to.ensures))
