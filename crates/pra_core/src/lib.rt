@@ -2,5 +2,7 @@
 #![tactic(auto)]
 
 mod decision;
+#[cfg(test)]
+mod tests;
 
 pub use decision::decide_perm;

@@ -6,6 +6,8 @@ mod judging;
 mod laws;
 mod searching;
 mod strong;
+#[cfg(test)]
+mod tests;
 
 pub use arbac_policy::{Part, Side};
 pub use decision::{Verdict, decide, decide_on};

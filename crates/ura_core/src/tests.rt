@@ -1,0 +1,263 @@
+//! Verdicts on acts on users.
+use crate::{Part, Side, Verdict, decide};
+use arbac_policy::{Act, ActKind, CanAssign, CanRevoke, Cond, Policy};
+use role_order::{Order, Range, RoleSet};
+use std::alloc::{AllocError, Global};
+use std::process::Abort;
+use std::test::Fail;
+
+/// An act, the target's new set, and the part that fails, if there is one.
+type Row = (ActKind, u32, u32, u16, &'static [u16], Option<Part>);
+
+const NAMES: [&str; 7] = ["DSO", "PSO1", "PL1", "PE1", "QE1", "E1", "ED"];
+
+const EDGES: [(u16, u16); 6] = [(0, 1), (2, 3), (2, 4), (3, 5), (4, 5), (5, 6)];
+
+const USERS: [&[u16]; 9] = [
+    &[0],
+    &[1],
+    &[6],
+    &[3],
+    &[2, 5],
+    &[3, 5],
+    &[3, 4],
+    &[],
+    &[0, 1],
+];
+
+const ROWS: [Row; 22] = [
+    (ActKind::Assign, 0, 2, 5, &[5, 6], None),
+    (ActKind::Assign, 1, 6, 4, &[3, 4], None),
+    (ActKind::Assign, 0, 4, 2, &[2, 5], None),
+    (
+        ActKind::Assign,
+        1,
+        7,
+        5,
+        &[],
+        Some(Part::NoCondition { role: 5, rule: 0 }),
+    ),
+    (
+        ActKind::Assign,
+        0,
+        2,
+        2,
+        &[],
+        Some(Part::NoCondition { role: 2, rule: 1 }),
+    ),
+    (
+        ActKind::Assign,
+        1,
+        3,
+        4,
+        &[],
+        Some(Part::Exclusive { role: 4, pair: 0 }),
+    ),
+    (
+        ActKind::Assign,
+        0,
+        3,
+        2,
+        &[],
+        Some(Part::Exclusive { role: 2, pair: 0 }),
+    ),
+    (
+        ActKind::Assign,
+        2,
+        7,
+        5,
+        &[],
+        Some(Part::NoAdmin { role: 5, rule: 0 }),
+    ),
+    (
+        ActKind::Assign,
+        1,
+        3,
+        2,
+        &[],
+        Some(Part::NoAdmin { role: 2, rule: 1 }),
+    ),
+    (
+        ActKind::Assign,
+        1,
+        7,
+        6,
+        &[],
+        Some(Part::NoRange { role: 6 }),
+    ),
+    (
+        ActKind::Assign,
+        1,
+        7,
+        7,
+        &[],
+        Some(Part::NoRole { role: 7 }),
+    ),
+    (
+        ActKind::Assign,
+        9,
+        9,
+        5,
+        &[],
+        Some(Part::NoUser {
+            side: Side::Admin,
+            place: 9,
+        }),
+    ),
+    (
+        ActKind::Assign,
+        1,
+        9,
+        5,
+        &[],
+        Some(Part::NoUser {
+            side: Side::Target,
+            place: 9,
+        }),
+    ),
+    (ActKind::Weak, 1, 5, 5, &[3], None),
+    (ActKind::Weak, 0, 2, 5, &[6], None),
+    (
+        ActKind::Weak,
+        2,
+        5,
+        5,
+        &[],
+        Some(Part::NoAdmin { role: 5, rule: 0 }),
+    ),
+    (ActKind::Weak, 0, 4, 2, &[], Some(Part::NoRange { role: 2 })),
+    (ActKind::Strong, 1, 5, 5, &[], None),
+    (ActKind::Strong, 0, 8, 1, &[], None),
+    (
+        ActKind::Strong,
+        1,
+        4,
+        5,
+        &[],
+        Some(Part::NoRange { role: 2 }),
+    ),
+    (
+        ActKind::Strong,
+        8,
+        8,
+        1,
+        &[],
+        Some(Part::NoAdmin { role: 1, rule: 1 }),
+    ),
+    (
+        ActKind::Strong,
+        1,
+        7,
+        7,
+        &[],
+        Some(Part::NoRole { role: 7 }),
+    ),
+];
+
+fn department(rt: &impl Abort, alloc: Global) -> Result<Order, Fail> {
+    let mut names = Vec::new(alloc);
+    for name in NAMES {
+        names.push(format!(in alloc; "{name}")?)?;
+    }
+    let mut edges = Vec::new(alloc);
+    for edge in EDGES {
+        edges.push(edge)?;
+    }
+    assert!(rt; names.len() < 1_000 && edges.len() < 1_000);
+    Ok(Order::new(alloc, names, edges)?)
+}
+
+fn range(low: u16, high: u16, high_open: bool) -> Range {
+    Range {
+        low,
+        high,
+        low_open: false,
+        high_open,
+    }
+}
+
+/// PSO1 gives and takes E1 up to below PL1, DSO gives PL1 and takes PSO1 and DSO; PE1 excludes QE1.
+fn policy(rt: &impl Abort, alloc: Global) -> Result<Policy, Fail> {
+    let engineer = CanAssign {
+        admin: 1,
+        cond: Cond::Has(6),
+        range: range(5, 2, true),
+    };
+    let lead = CanAssign {
+        admin: 0,
+        cond: Cond::Has(5),
+        range: range(2, 2, false),
+    };
+    let engineers = CanRevoke {
+        admin: 1,
+        range: range(5, 2, true),
+    };
+    let officers = CanRevoke {
+        admin: 0,
+        range: range(1, 0, false),
+    };
+    let policy = Policy::new(
+        department(rt, alloc)?,
+        vec![in alloc; engineer, lead]?,
+        vec![in alloc; engineers, officers]?,
+        Vec::new(alloc),
+        Vec::new(alloc),
+        vec![in alloc; (3, 4)]?,
+    );
+    Ok(policy.ok_or("no policy")?)
+}
+
+fn set_of(rt: &impl Abort, roles: &[u16]) -> RoleSet {
+    let mut set = RoleSet::empty();
+    for role in roles {
+        assert!(rt; *role < 7);
+        set = set.with(*role);
+    }
+    set
+}
+
+fn users(rt: &impl Abort, alloc: Global) -> Result<Vec<RoleSet>, AllocError> {
+    let mut users = Vec::new(alloc);
+    for roles in USERS {
+        users.push(set_of(rt, roles))?;
+    }
+    Ok(users)
+}
+
+fn are_equal(set: &RoleSet, other: &RoleSet) -> bool {
+    set.within(other) && other.within(set)
+}
+
+fn assert_verdict(
+    rt: &impl Abort,
+    verdict: Verdict,
+    roles: &[u16],
+    fails: Option<Part>,
+    at: usize,
+) {
+    match verdict {
+        Verdict::Granted(set) => {
+            assert_eq!(rt; fails, None, "granted at {at}");
+            assert!(rt; are_equal(&set, &set_of(rt, roles)), "another set at {at}");
+        }
+        Verdict::Denied(part) => assert_eq!(rt; Some(part), fails, "at {at}"),
+    }
+}
+
+#[test]
+fn acts_on_users_are_judged_by_the_first_part_that_fails(rt: HostRuntime) -> Result<(), Fail> {
+    let alloc = rt.alloc();
+    let policy = policy(&rt, alloc)?;
+    let users = users(&rt, alloc)?;
+    for (at, row) in ROWS.iter().enumerate() {
+        let (kind, admin, target, role, roles, fails) = *row;
+        let act = Act {
+            kind,
+            admin,
+            target,
+            role,
+        };
+        assert_verdict(&rt, decide(&policy, &users, &act), roles, fails, at);
+    }
+    Ok(())
+}
