@@ -128,8 +128,7 @@ pub pairs_edges : (edges : List (ℕ × ℕ)) (goal : List Term) (sets : List (L
 pairs_edges edges goal sets pairs are k d l =
     let pair : ℕ × ℕ = get_or pairs k d in
     let there : Contains pairs pair = (k, l, get_any pairs k pair d l) in
-    let met = (are pair.0 pair.1).0 there in
-    (
+    let met = (are pair.0 pair.1).0 there in (
       (get_within goal pair.0 met.0 met.1).0,
       subst (λ n. pair.1 < n) (sym (length-replicate (length sets) (Some 1))) (get_within sets pair.1 met.2.0 met.2.1).0,
     )

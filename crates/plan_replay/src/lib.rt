@@ -3,6 +3,8 @@
 
 mod goals;
 mod replaying;
+#[cfg(test)]
+mod tests;
 
 pub use goals::goal_met;
 pub use replaying::{Replayed, replay};

@@ -14,8 +14,8 @@ pub match_all-requires : goal.match_all-requires
 match_all-requires c =
     let are : ArePairs c.args.policy.now.order.edges (map term_of c.args.goal.now) c.args.population.now c.in_ok-pairs.pairs.items = rw c.order.ensures.order at c.in_ok-pairs.ensures in
     let edges : AreEdges (length c.args.goal.now) (replicate (length c.args.population.now) (Some 1)) c.in_ok-pairs.pairs.items =
-        subst (λ n. AreEdges n (replicate (length c.args.population.now) (Some 1)) c.in_ok-pairs.pairs.items) (length-map term_of c.args.goal.now)
-        (pairs_edges c.args.policy.now.order.edges (map term_of c.args.goal.now) c.args.population.now c.in_ok-pairs.pairs.items are) in
+    subst (λ n. AreEdges n (replicate (length c.args.population.now) (Some 1)) c.in_ok-pairs.pairs.items) (length-map term_of c.args.goal.now)
+    (pairs_edges c.args.policy.now.order.edges (map term_of c.args.goal.now) c.args.population.now c.in_ok-pairs.pairs.items are) in
     rw (c.deref-2.ensures.value, c.deref.ensures.value, c.in_ok-ones.ensures) edges
 
 -- src/goals.rt:76:1
@@ -23,7 +23,7 @@ pub returns-in-Matched-clause-met : goal.returns-in-Matched-clause-met
 returns-in-Matched-clause-met c =
     let are : ArePairs c.args.policy.now.order.edges (map term_of c.args.goal.now) c.args.population.now c.in_ok-pairs.pairs.items = rw c.order.ensures.order at c.in_ok-pairs.ensures in
     let least : IsLeast (length c.args.goal.now) (replicate (length c.args.population.now) (Some 1)) c.in_ok-pairs.pairs.items c.in-Matched.users.items =
-        rw (c.in-Matched.is, c.deref-2.ensures.value, c.deref.ensures.value, c.in_ok-ones.ensures) at c.in_ok-users.ensures.matched in
+    rw (c.in-Matched.is, c.deref-2.ensures.value, c.deref.ensures.value, c.in_ok-ones.ensures) at c.in_ok-users.ensures.matched in
     least_meets c.args.policy.now.order.edges (map term_of c.args.goal.now) c.args.population.now c.in_ok-pairs.pairs.items c.in-Matched.users.items are
     (subst (λ n. IsLeast n (replicate (length c.args.population.now) (Some 1)) c.in_ok-pairs.pairs.items c.in-Matched.users.items) (sym (length-map term_of c.args.goal.now)) least)
 
@@ -32,6 +32,6 @@ pub returns-clause-unmet : goal.returns-clause-unmet
 returns-clause-unmet c =
     let are : ArePairs c.args.policy.now.order.edges (map term_of c.args.goal.now) c.args.population.now c.in_ok-pairs.pairs.items = rw c.order.ensures.order at c.in_ok-pairs.ensures in
     let none : (list : List ℕ) → ¬ IsMatching (length c.args.goal.now) (replicate (length c.args.population.now) (Some 1)) c.in_ok-pairs.pairs.items list =
-        rw (c.in-Deficient.is, c.deref-2.ensures.value, c.deref.ensures.value, c.in_ok-ones.ensures) at c.in_ok-users.ensures.unmatched in
+    rw (c.in-Deficient.is, c.deref-2.ensures.value, c.deref.ensures.value, c.in_ok-ones.ensures) at c.in_ok-users.ensures.unmatched in
     none_met c.args.policy.now.order.edges (map term_of c.args.goal.now) c.args.population.now c.in_ok-pairs.pairs.items are
     (subst (λ n. (list : List ℕ) → ¬ IsMatching n (replicate (length c.args.population.now) (Some 1)) c.in_ok-pairs.pairs.items list) (sym (length-map term_of c.args.goal.now)) none)

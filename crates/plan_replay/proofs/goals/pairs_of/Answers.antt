@@ -13,7 +13,7 @@ use Rattle.plan_replay.proofs.goals.pairs_of.Goals as goal
 pub loop-place-preserved : goal.loop-place-preserved
 loop-place-preserved c =
     let there : slice_get c.args.goal.now c.loop-place.place ≡ Some c.index-goal-place.result =
-        get_at c.args.goal.now c.loop-place.place c.index-goal-place.result c.loop-place-test.true ∙ ap Some (sym c.index-goal-place.is) in
+    get_at c.args.goal.now c.loop-place.place c.index-goal-place.result c.loop-place-test.true ∙ ap Some (sym c.index-goal-place.is) in
     conditions_more c.args.order.now.edges (map term_of c.args.goal.now) c.args.population.now c.loop-place.pairs.items c.put_pairs.new.pairs.items c.loop-place.place
     (term_of c.index-goal-place.result) (get-map term_of c.args.goal.now c.loop-place.place c.index-goal-place.result there) c.loop-place.invariant c.in_ok-put_pairs.ensures
 

@@ -15,7 +15,7 @@ use Rattle.plan_replay.proofs.goals.put_pairs.Goals as goal
 pub loop-user-preserved : goal.loop-user-preserved
 loop-user-preserved c =
     let there : slice_get c.args.population.now c.loop-user.user ≡ Some c.index-population-user.result =
-        get_at c.args.population.now c.loop-user.user c.index-population-user.result c.loop-user-test.true ∙ ap Some (sym c.index-population-user.is) in
+    get_at c.args.population.now c.loop-user.user c.index-population-user.result c.loop-user-test.true ∙ ap Some (sym c.index-population-user.is) in
     elim c.if-holds.branch [
       | then-holds+in_ok-push w ↦ rw (w.pairs-is, w.in_ok-push.ensures.items)
           (pairs_more c.args.pairs.now.items c.loop-user.pairs.items c.args.place c.loop-user.user (IsMetBy c.args.order.now.edges (term_of c.args.cond.now) c.args.population.now)
