@@ -1,5 +1,5 @@
 -- A role order is refused in one way at most, and no refusal stands beside an order.
-use Rattle.std.proofs.Common.{ℕ, ◌≡◌, ◌<◌, ◌≤◌, ◌+◌, Bool, true, false, cond, ltb, List, [], ◌∷◌, length, refl, arith, sym, ◌∙◌, ap, subst, Option, Some, None, zero, suc}
+use Rattle.std.proofs.Common.{ℕ, ◌≡◌, ◌<◌, ◌≤◌, ◌+◌, Bool, true, false, cond, ltb, List, [], ◌∷◌, length, refl, arith, sym, ◌∙◌, ap, subst, Some, None, zero, suc}
 use Rattle.std.specs.Prelude.{slice_get, take, not, nat_lt}
 use Rattle.std.specs.List.{position_or_len}
 use Rattle.std.specs.Str.{bytes_eq}
@@ -9,9 +9,9 @@ use Rattle.std.proofs.lemmas.Slice.Eq.{bytes_eq-Decides}
 use Rattle.role_order.specs.declared.order.OrderError.{OrderError}
 use Rattle.role_order.specs.declared.order.OrderError.TheVariants.{NoRoles, TooManyRoles, BadName, SameName, EdgeOutOfRange, Cycle, Memory}
 use Rattle.role_order.specs.declared.TheConstants.{MOST_ROLES}
-use Rattle.role_order.specs.Lists.{Each, IsFirst}
+use Rattle.role_order.specs.Lists.{IsFirst}
 use Rattle.role_order.specs.Names.{place_of, is_role_name, AreDifferent}
-use Rattle.role_order.specs.Graph.{Leads, IsEdge, AreEdges, AreAcyclic, IsCycle}
+use Rattle.role_order.specs.Graph.{Leads, IsEdge, AreEdges, IsCycle}
 use Rattle.role_order.specs.Refusals.{AreRoleNames, IsOrder, IsRepeated, IsRefused}
 use Rattle.role_order.proofs.ListLemmas.{each_at, get_take, get_taken}
 
