@@ -1,18 +1,10 @@
 -- A text that stands for a run has no fault, and stands for no other run.
-use Rattle.std.proofs.Common.{ℕ, ◌≡◌, ◌<◌, ◌≤◌, ◌+◌, ◌⊎◌, inl, inr, Bool, true, false, List, [], ◌∷◌, ◌++◌, append_assoc, append-nil, length, refl, arith, sym, ◌∙◌, ap, subst, Option, Some, None, map, cond, zero, suc, IfOk, IfErr, Result, Ok, Err}
-use Rattle.std.specs.Prelude.{codes, slice_get, take, not, nat_lt}
-use Rattle.std.specs.List.{position_or_len}
-use Rattle.std.specs.Str.{bytes_eq}
-use Rattle.std.proofs.lemmas.Bool.Decides.{nat_tests}
-use Rattle.std.proofs.lemmas.Slice.Eq.{bytes_eq-Decides}
+use Rattle.std.proofs.Common.{ℕ, ◌≡◌, ◌≤◌, ◌+◌, ◌⊎◌, inl, inr, false, List, [], ◌∷◌, ◌++◌, append_assoc, append-nil, length, refl, arith, sym, ◌∙◌, ap, subst, Some, map}
+use Rattle.std.specs.Prelude.{codes}
 use Rattle.std.proofs.lemmas.Bool.{false≢true}
 use Rattle.role_order.specs.declared.order.OrderError.{OrderError}
-use Rattle.role_order.specs.declared.order.OrderError.TheVariants as refusals
-use Rattle.role_order.specs.Lists.{Each, Some_of, IsFirst}
-use Rattle.role_order.specs.Names.{place_of, is_role_name}
-use Rattle.role_order.specs.Graph.{IsEdge, AreEdges}
-use Rattle.role_order.specs.Refusals.{IsOrder, IsRefused}
-use Rattle.role_order.proofs.ListLemmas.{each_at, get_taken}
+use Rattle.role_order.specs.Lists.{Each, Some_of}
+use Rattle.role_order.specs.Refusals.{IsOrder}
 use Rattle.arbac_policy.specs.Truth.{Term}
 use Rattle.cond_text.specs.declared.word.Word.{Word}
 use Rattle.cond_text.specs.declared.word.Placed.{Placed}
@@ -27,17 +19,16 @@ use Rattle.policy_text.specs.declared.run_error.RunError.TheVariants.{BadLine, U
 use Rattle.policy_text.specs.Lines.{split, is_order_line}
 use Rattle.policy_text.specs.Shapes.{Shape, NamedRange, a_role, an_edge, an_assign, a_revoke, a_user, an_act, a_goal, IsShape, tells_order, spell}
 use Rattle.policy_text.specs.Spelling.{shape_of}
-use Rattle.policy_text.specs.Runs.{RunValue, nothing, MayStand, HasRoom, Names, NameEach, NamesRange, Says, Gains, Adds, AddAll, behind_edges, behind_roles, IsReadTo, StandsFor}
-use Rattle.policy_text.specs.Faults.{IsUnknown, HasUnknown, HasCondFault, IsPlaced, IsLineFault, EndsOrder, IsFaultInside, IsFaultAhead, IsFaultBehind, IsOrderFault, IsUnended, IsFirstFault}
-use Rattle.policy_text.specs.Steps.{AddsLine}
-use Rattle.policy_text.proofs.LineLemmas.{same_pair}
+use Rattle.policy_text.specs.Runs.{RunValue, nothing, MayStand, HasRoom, Names, NameEach, Says, Gains, Adds, AddAll, behind_edges, IsReadTo, StandsFor}
+use Rattle.policy_text.specs.Faults.{IsUnknown, HasUnknown, HasCondFault, IsLineFault, EndsOrder, IsFaultInside, IsFaultAhead, IsFaultBehind, IsOrderFault, IsUnended, IsFirstFault}
+use Rattle.policy_text.proofs.OrderLemmas.{order_clash}
 use Rattle.policy_text.proofs.FormLemmas.{form_found}
 use Rattle.policy_text.proofs.StepLemmas.{order_line_is, no_end, begun}
 use Rattle.policy_text.proofs.SoleLemmas.{gains_one}
 
 -- conditions
 
-cond_clash_at : (count : ℕ) (before : List Word) (x : Placed) (rest : List Placed) (f : CondError) → IsFaultAt count before x rest f → IsFine count before x rest → ⊥
+pub cond_clash_at : (count : ℕ) (before : List Word) (x : Placed) (rest : List Placed) (f : CondError) → IsFaultAt count before x rest f → IsFine count before x rest → ⊥
 cond_clash_at count before x rest (conditions.Unexpected place) h k = h.1 k.expected
 cond_clash_at count before x rest (conditions.TooDeep place) h k = k.shallow h.2
 cond_clash_at count before x rest (conditions.UnknownRole place) h k = k.known h.3
@@ -56,45 +47,6 @@ says_clash names text term (conditions.UnknownRole place) s r m = cond_clash (le
 says_clash names text term (conditions.TooDeep place) s r m = cond_clash (length names) (length text) (placed_words names text) [] (conditions.TooDeep place) term r s.1 s.0
 says_clash names text term conditions.Memory s r m = m refl
 
--- role orders
-
-prefix_at : (name : List ℕ) (names : List (List ℕ)) → position_or_len (λ other. bytes_eq other name) names < length names
-    → slice_get names (position_or_len (λ other. bytes_eq other name) names) ≡ Some name
-prefix_at name [] l = absurd (omega arith)
-prefix_at name (n ∷ ns) l = by_test (bytes_eq n name) refl l (prefix_at name ns)
-  where
-    by_test : (t : Bool) → bytes_eq n name ≡ t → cond (not t) (1 + position_or_len (λ other. bytes_eq other name) ns) 0 < suc (length ns)
-        → (position_or_len (λ other. bytes_eq other name) ns < length ns → slice_get ns (position_or_len (λ other. bytes_eq other name) ns) ≡ Some name)
-        → slice_get (n ∷ ns) (cond (not t) (1 + position_or_len (λ other. bytes_eq other name) ns) 0) ≡ Some name
-    by_test true t l later = ap Some ((bytes_eq-Decides n name).0 t)
-    by_test false t l later =
-        let up : 1 + position_or_len (λ other. bytes_eq other name) ns ≡ suc (position_or_len (λ other. bytes_eq other name) ns) = omega arith in
-        rw up (later (omega arith))
-
-place_found : (name : List ℕ) (names : List (List ℕ)) (at : ℕ) → place_of names name ≡ Some at → slice_get names at ≡ Some name
-place_found name names at e = by_test (nat_lt (position_or_len (λ other. bytes_eq other name) names) (length names)) refl e
-  where
-    by_test : (t : Bool) → nat_lt (position_or_len (λ other. bytes_eq other name) names) (length names) ≡ t
-        → cond t (Some (position_or_len (λ other. bytes_eq other name) names)) None ≡ Some at → slice_get names at ≡ Some name
-    by_test true t e =
-        let less : position_or_len (λ other. bytes_eq other name) names < length names = grind (arith, nat_tests) in
-        let same : position_or_len (λ other. bytes_eq other name) names ≡ at = cc in
-        subst (λ (k : ℕ). slice_get names k ≡ Some name) same (prefix_at name names less)
-    by_test false t e = absurd (cc)
-
-order_clash : (names : List (List ℕ)) (edges : List (ℕ × ℕ)) (error : OrderError) → IsOrder names edges → IsRefused names edges error → (error ≡ refusals.Memory → ⊥) → ⊥
-order_clash names edges refusals.NoRoles o r m =
-    let l : 1 ≤ length names = o.are_names.counted.0 in let z : length names ≡ 0 = ap length r in absurd (omega arith)
-order_clash names edges (refusals.TooManyRoles count) o r m = let l = o.are_names.counted.1 in let k = r.0 in absurd (omega arith)
-order_clash names edges (refusals.BadName place) o r m = false≢true (sym r.1.holds ∙ each_at (λ name. is_role_name name ≡ true) names place r.1.item o.are_names.named r.1.at)
-order_clash names edges (refusals.SameName first second) o r m =
-    let at = get_taken names second first r.2.name (place_found r.2.name (take second names) first r.2.before) in
-    let same = o.are_names.different first second r.2.name at.1 r.2.at in
-    absurd (omega (arith, at.0, same))
-order_clash names edges (refusals.EdgeOutOfRange place) o r m = r.1.holds (each_at (IsEdge (length names)) edges place r.1.item o.ends r.1.at)
-order_clash names edges (refusals.Cycle place) o r m = o.acyclic place r.2.edge r.2.at r.2.back
-order_clash names edges refusals.Memory o r m = m refl
-
 -- lines
 
 named_clash : (names : List (List ℕ)) (name : List ℕ) (role : ℕ) → Names names name role → IsUnknown names name → ⊥
@@ -109,7 +61,7 @@ each_clash names [] roles h u = u
 each_clash names (word ∷ words) roles h (inl u) = named_clash names word h.0 h.2 u
 each_clash names (word ∷ words) roles h (inr u) = each_clash names words h.1 h.3 u
 
-known_clash : (run next : RunValue) (shape : Shape) → Gains run shape next → HasUnknown run.names shape → ⊥
+pub known_clash : (run next : RunValue) (shape : Shape) → Gains run shape next → HasUnknown run.names shape → ⊥
 known_clash run next (a_role name) g u = u
 known_clash run next (an_edge senior junior) g (inl u) = named_clash run.names senior g.0.0 g.1 u
 known_clash run next (an_edge senior junior) g (inr u) = named_clash run.names junior g.0.1 g.2 u
@@ -134,10 +86,10 @@ condition_clash run next (an_act kind admin target role) error g f = f
 pub spell_one : (a b : Shape) → IsShape a → IsShape b → spell a ≡ spell b → a ≡ b
 spell_one a b h k e = let s : Some a ≡ Some b = sym (form_found a h) ∙ ap shape_of e ∙ form_found b k in cc
 
-no_last : (shape : Shape) → IsShape shape → spell shape ≡ codes "end" → ⊥
+pub no_last : (shape : Shape) → IsShape shape → spell shape ≡ codes "end" → ⊥
 no_last shape h e = no_end (spell shape) shape (form_found shape h) e
 
-adds_clash : (run next : RunValue) (line : List ℕ) (shape : Shape) (number : ℕ) (fault : RunError) → IsShape shape → spell shape ≡ line → Adds run shape next → (fault ≡ Memory → ⊥) → IsLineFault run line number fault → ⊥
+pub adds_clash : (run next : RunValue) (line : List ℕ) (shape : Shape) (number : ℕ) (fault : RunError) → IsShape shape → spell shape ≡ line → Adds run shape next → (fault ≡ Memory → ⊥) → IsLineFault run line number fault → ⊥
 adds_clash run next line shape number (BadLine at) h s a m f = f.1 shape (record { formed = h; spelled = s; place = a.place })
 adds_clash run next line shape number (TooMany at) h s a m f =
     f.3 (subst (HasRoom run) (spell_one shape f.1 h f.2.formed (s ∙ sym f.2.spelled)) a.room)
@@ -149,7 +101,7 @@ adds_clash run next line shape number (Order error) h s a m f = f
 adds_clash run next line shape number Unended h s a m f = f
 adds_clash run next line shape number Memory h s a m f = m refl
 
-end_clash : (run : RunValue) (line : List ℕ) (number : ℕ) (fault : RunError) → line ≡ codes "end" → 1 ≤ length run.goal → (fault ≡ Memory → ⊥) → IsLineFault run line number fault → ⊥
+pub end_clash : (run : RunValue) (line : List ℕ) (number : ℕ) (fault : RunError) → line ≡ codes "end" → 1 ≤ length run.goal → (fault ≡ Memory → ⊥) → IsLineFault run line number fault → ⊥
 end_clash run line number (BadLine at) e g m f = let z : length run.goal ≡ 0 = f.2 e in absurd (omega arith)
 end_clash run line number (TooMany at) e g m f = no_last f.1 f.2.formed (f.2.spelled ∙ e)
 end_clash run line number (UnknownRole at) e g m f = no_last f.1 f.2.formed (f.2.spelled ∙ e)
@@ -159,17 +111,17 @@ end_clash run line number Unended e g m f = f
 end_clash run line number Memory e g m f = m refl
 
 -- the line is one more right line on the way to the last run
-record IsOnTheWay (mid : RunValue) (line : List ℕ) (last : RunValue) : Type 0 where
-  shape : Shape
-  formed : IsShape shape
-  spelled : spell shape ≡ line
-  next : RunValue
-  adds : Adds mid shape next
-  more : List Shape
-  each : Each IsShape more
-  rest : AddAll next more last
+pub record IsOnTheWay (mid : RunValue) (line : List ℕ) (last : RunValue) : Type 0 where
+  pub shape : Shape
+  pub formed : IsShape shape
+  pub spelled : spell shape ≡ line
+  pub next : RunValue
+  pub adds : Adds mid shape next
+  pub more : List Shape
+  pub each : Each IsShape more
+  pub rest : AddAll next more last
 
-same_cons : {A : Type 0} (x y : A) (xs ys : List A) → x ∷ xs ≡ y ∷ ys → (x ≡ y) × (xs ≡ ys)
+pub same_cons : {A : Type 0} (x y : A) (xs ys : List A) → x ∷ xs ≡ y ∷ ys → (x ≡ y) × (xs ≡ ys)
 same_cons x y xs ys e = (cc, cc)
 
 -- right lines before a line, and all right lines before the last one, tell what the line is
@@ -213,7 +165,7 @@ one_run bytes a b h k =
     by_case (inr e) = e.2
 
 -- what lines behind the role order keep
-keep_one : (run next : RunValue) (shape : Shape) → tells_order shape ≡ false → Gains run shape next → (next.names ≡ run.names) × (next.edges ≡ run.edges)
+pub keep_one : (run next : RunValue) (shape : Shape) → tells_order shape ≡ false → Gains run shape next → (next.names ≡ run.names) × (next.edges ≡ run.edges)
 keep_one run next (a_role name) t g = absurd (cc)
 keep_one run next (an_edge senior junior) t g = absurd (cc)
 keep_one run next (an_assign admin range condition) t g = (ap (λ (r : RunValue). r.names) g.4, ap (λ (r : RunValue). r.edges) g.4)
@@ -222,7 +174,7 @@ keep_one run next (a_user words) t g = (ap (λ (r : RunValue). r.names) g.2, ap 
 keep_one run next (an_act kind admin target role) t g = (ap (λ (r : RunValue). r.names) g.5, ap (λ (r : RunValue). r.edges) g.5)
 keep_one run next (a_goal condition) t g = (ap (λ (r : RunValue). r.names) g.2, ap (λ (r : RunValue). r.edges) g.2)
 
-no_order : (run : RunValue) (shape : Shape) → (behind_edges run ≡ 0 → ⊥) → MayStand run shape → tells_order shape ≡ false
+pub no_order : (run : RunValue) (shape : Shape) → (behind_edges run ≡ 0 → ⊥) → MayStand run shape → tells_order shape ≡ false
 no_order run (a_role name) late p = absurd (late (second (length run.edges) (behind_edges run) p))
   where
     second : (a b : ℕ) → a + b ≡ 0 → b ≡ 0
@@ -234,11 +186,11 @@ no_order run (a_user words) late p = refl
 no_order run (an_act kind admin target role) late p = refl
 no_order run (a_goal condition) late p = refl
 
-still_late : (run next : RunValue) (shape : Shape) → IsShape shape → tells_order shape ≡ false → Adds run shape next → behind_edges next ≡ 0 → ⊥
+pub still_late : (run next : RunValue) (shape : Shape) → IsShape shape → tells_order shape ≡ false → Adds run shape next → behind_edges next ≡ 0 → ⊥
 still_late run next shape h t a =
     begun run next (spell shape) (record { shape = shape; formed = h; spelled = refl; adds = a }) (λ o. absurd (false≢true (sym t ∙ sym (order_line_is shape) ∙ o)))
 
-keep_all : (run last : RunValue) (lines : List Shape) → Each IsShape lines → (behind_edges run ≡ 0 → ⊥) → AddAll run lines last → (last.names ≡ run.names) × (last.edges ≡ run.edges)
+pub keep_all : (run last : RunValue) (lines : List Shape) → Each IsShape lines → (behind_edges run ≡ 0 → ⊥) → AddAll run lines last → (last.names ≡ run.names) × (last.edges ≡ run.edges)
 keep_all run last [] h late a = (ap (λ (r : RunValue). r.names) a, ap (λ (r : RunValue). r.edges) a)
 keep_all run last (line ∷ lines) h late a =
     let t = no_order run line late a.1.place in
@@ -309,4 +261,4 @@ first_clash bytes value (Cond at error) h m f = inside_clash bytes value (Cond a
 first_clash bytes value (Order error) h m (inl f) = no_lines_clash bytes value h f.0
 first_clash bytes value (Order error) h m (inr f) = order_fault_clash bytes value error h f
 first_clash bytes value Unended h m f = unended_clash bytes value h f
-first_clash bytes value Memory h m f = m refl
+first_clash bytes value Memory h m f = f

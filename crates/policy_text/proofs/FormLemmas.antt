@@ -1,9 +1,8 @@
 -- Each line that has a form is read as that form.
-use Rattle.std.proofs.Common.{ℕ, ◌≡◌, ◌<◌, ◌^◌, Bool, true, false, List, [], ◌∷◌, ◌++◌, append_assoc, length, refl, arith, sym, ◌∙◌, ap, Option, Some, None, eqb, cond}
+use Rattle.std.proofs.Common.{ℕ, ◌≡◌, ◌<◌, ◌^◌, Bool, true, false, List, [], ◌∷◌, ◌++◌, append_assoc, refl, sym, ◌∙◌, ap, Some, eqb, cond}
 use Rattle.std.specs.Prelude.{codes}
 use Rattle.std.specs.Fmt.{decimal}
-use Rattle.std.specs.Str.{IsUtf8, is_utf8}
-use Rattle.std.proofs.lemmas.Bool.{eq-eqb}
+use Rattle.std.specs.Str.{IsUtf8}
 use Rattle.std.proofs.lemmas.Str.{is_utf8-from_IsUtf8}
 use Rattle.role_order.specs.Lists.{Each}
 use Rattle.role_order.specs.Names.{is_name}
@@ -11,7 +10,7 @@ use Rattle.arbac_policy.specs.declared.act.ActKind.{ActKind}
 use Rattle.arbac_policy.specs.declared.act.ActKind.TheVariants.{Assign, Weak, Strong}
 use Rattle.policy_text.specs.Lines.{cut}
 use Rattle.policy_text.specs.Shapes.{Shape, NamedRange, a_role, an_edge, an_assign, a_revoke, a_user, an_act, a_goal, IsName, IsNamedRange, IsShape, spell, spell_kind, spell_range, spell_names}
-use Rattle.policy_text.specs.Spelling.{◌>>=◌, name_in, text_in, number_in, opening_in, closing_in, range_in, kind_in, role_in, edge_in, assign_in, revoke_in, user_in, words, in_first, names_behind, act_in, goal_in, keyword_in, shape_of}
+use Rattle.policy_text.specs.Spelling.{name_in, text_in, opening_in, closing_in, range_in, kind_in, role_in, edge_in, assign_in, revoke_in, user_in, words, names_behind, act_in, goal_in, keyword_in, shape_of}
 use Rattle.policy_text.proofs.LineLemmas.{Lacks, cut_behind, cut_nowhere}
 use Rattle.policy_text.proofs.WordLemmas.{name_lacks, words_cut, words_one}
 use Rattle.policy_text.proofs.NumberLemmas.{number_found, decimal_lacks}

@@ -1,5 +1,5 @@
 -- The first piece of a text before a byte, and all lines.
-use Rattle.std.proofs.Common.{ℕ, ◌≡◌, ◌<◌, ◌≤◌, ◌+◌, ◌-◌, Bool, true, false, List, [], ◌∷◌, ◌++◌, length, length-drop, get_or, take, drop, refl, arith, sym, ◌∙◌, ap, Option, Some, None, eqb, zero, suc, cond}
+use Rattle.std.proofs.Common.{ℕ, ◌≡◌, ◌<◌, ◌+◌, ◌-◌, Bool, true, false, List, [], ◌∷◌, ◌++◌, length, length-drop, get_or, take, drop, refl, arith, ap, Option, Some, None, eqb, zero, suc, cond}
 use Rattle.std.proofs.lemmas.Bool.{ne_eqb, eq-eqb, eqb-true}
 use Rattle.policy_text.specs.Lines.{cut, with_front, split, in_front, after_feed}
 

@@ -1,9 +1,8 @@
 -- What the parts of a text say, put together.
-use Rattle.std.proofs.Common.{ℕ, ◌≡◌, ◌<◌, ◌≤◌, ◌+◌, ◌⊎◌, inl, inr, List, [], ◌∷◌, ◌++◌, append_assoc, length, refl, arith, sym, ◌∙◌, ap, subst, Some, None, map, suc, Result, Ok, Err, IfOk, IfErr}
-use Rattle.std.specs.Prelude.{codes, ◌^◌}
+use Rattle.std.proofs.Common.{ℕ, ◌≡◌, ◌+◌, inl, inr, List, [], ◌∷◌, ◌++◌, length, refl, arith, sym, ◌∙◌, ap, subst, Some, None, map, suc, Result, Ok, Err, IfOk, IfErr}
+use Rattle.std.specs.Prelude.{codes}
 use Rattle.role_order.specs.declared.order.OrderError.TheVariants as refusals
 use Rattle.role_order.specs.Lists.{Each}
-use Rattle.role_order.specs.Refusals.{IsOrder}
 use Rattle.role_order.specs.Graph.{Graph}
 use Rattle.arbac_policy.specs.Rules.{IsPolicy, AreCountable, policy_of}
 use Rattle.role_order.specs.Names.{texts}
@@ -16,8 +15,9 @@ use Rattle.policy_text.specs.Shapes.{Shape, IsShape, spell}
 use Rattle.policy_text.specs.declared.run.Run.{Run}
 use Rattle.policy_text.specs.Runs.{RunValue, nothing, plain_rule, plain_of, behind_edges, AddAll, IsReadTo, StandsFor, Reads}
 use Rattle.policy_text.proofs.ClashLemmas.{one_run, first_clash}
-use Rattle.policy_text.specs.Faults.{EndsOrder, IsFaultInside, IsFaultAhead, IsFirstFault}
-use Rattle.policy_text.specs.Steps.{listing_view, order_view, run_view, IsOrderTold, Passes, StopsAt, EndsWith, GoesOn, HasNoEnd, IsBodyFault, Told}
+use Rattle.policy_text.proofs.FirstLemmas.{one_fault}
+use Rattle.policy_text.specs.Faults.{EndsOrder, IsFaultInside, IsFirstFault, IsRefused, Tells}
+use Rattle.policy_text.specs.Steps.{listing_view, order_view, run_view, IsOrderTold, Passes, StopsAt, EndsWith, IsBodyFault, Told}
 use Rattle.policy_text.proofs.LineLemmas.{split_none, split_first, cut_joined}
 use Rattle.policy_text.proofs.UserLemmas.{map_long}
 use Rattle.policy_text.proofs.RunLemmas.{few_nothing}
@@ -85,7 +85,7 @@ inside bytes text e h s = record {
 }
 
 -- a fault among the lines of the role order
-pub told_first : (bytes text : List ℕ) (e : RunError) → IsHeaded bytes text → Told e (StopsAt nothing text 2 e) → IsFirstFault bytes e
+pub told_first : (bytes text : List ℕ) (e : RunError) → IsHeaded bytes text → Told e (StopsAt nothing text 2 e) → IsRefused bytes e
 told_first bytes text (BadLine at) h s = inr (inl (inside bytes text (BadLine at) h s))
 told_first bytes text (TooMany at) h s = inside bytes text (TooMany at) h s
 told_first bytes text (UnknownRole at) h s = inside bytes text (UnknownRole at) h s
@@ -96,7 +96,7 @@ told_first bytes text Memory h s = tt
 
 -- a refusal of the role order
 pub order_first : (bytes text rest : List ℕ) (run : RunValue) (at : ℕ) (e : RunError) → IsHeaded bytes text → Passes nothing text 2 run rest at → behind_edges run ≡ 0 → EndsOrder (split rest).0
-    → IsOrderTold run.names run.edges e → IsFirstFault bytes e
+    → IsOrderTold run.names run.edges e → IsRefused bytes e
 order_first bytes text rest run at (Order error) h p early ends o = inr (record {
   run = run;
   number = at;
@@ -129,7 +129,7 @@ stops_then text rest run at e p s = record {
 }
 
 -- a fault behind the role order
-pub body_first : (bytes text rest : List ℕ) (run : RunValue) (at : ℕ) (e : RunError) → IsHeaded bytes text → Passes nothing text 2 run rest at → IsBodyFault run rest at e → IsFirstFault bytes e
+pub body_first : (bytes text rest : List ℕ) (run : RunValue) (at : ℕ) (e : RunError) → IsHeaded bytes text → Passes nothing text 2 run rest at → IsBodyFault run rest at e → IsRefused bytes e
 body_first bytes text rest run at (BadLine k) h p (inl s) = inr (inl (inside bytes text (BadLine k) h (stops_then text rest run at (BadLine k) p s)))
 body_first bytes text rest run at (BadLine k) h p (inr s) = inr (inr (record {
   run = s.last;
@@ -221,7 +221,7 @@ behind_head bytes line text c is = ap length (cut_joined 10 bytes line text c �
     longer n = omega arith
 
 -- what stands for a run is read as that run
-pub only_of : (bytes : List ℕ) (r : Result Run RunError) → IfOk r (λ run. StandsFor bytes (plain_of run)) → IfErr r (IsFirstFault bytes) → (run : RunValue) → StandsFor bytes run → Reads r run
+pub only_of : (bytes : List ℕ) (r : Result Run RunError) → IfOk r (λ run. StandsFor bytes (plain_of run)) → IfErr r (IsRefused bytes) → (run : RunValue) → StandsFor bytes run → Reads r run
 only_of bytes (Ok found) h k run s = one_run bytes (plain_of found) run h s
 only_of bytes (Err Memory) h k run s = refl
 only_of bytes (Err (BadLine at)) h k run s = absurd (first_clash bytes run (BadLine at) s (λ e. absurd (cc)) k)
@@ -230,3 +230,14 @@ only_of bytes (Err (UnknownRole at)) h k run s = absurd (first_clash bytes run (
 only_of bytes (Err (Cond at error)) h k run s = absurd (first_clash bytes run (Cond at error) s (λ e. absurd (cc)) k)
 only_of bytes (Err (Order error)) h k run s = absurd (first_clash bytes run (Order error) s (λ e. absurd (cc)) k)
 only_of bytes (Err Unended) h k run s = absurd (first_clash bytes run Unended s (λ e. absurd (cc)) k)
+
+-- a text's first fault is told
+pub told_of : (bytes : List ℕ) (r : Result Run RunError) → IfOk r (λ run. StandsFor bytes (plain_of run)) → IfErr r (IsRefused bytes) → (fault : RunError) → IsFirstFault bytes fault → Tells r fault
+told_of bytes (Ok found) h k fault f = first_clash bytes (plain_of found) fault h (λ e. subst (IsFirstFault bytes) e f) f
+told_of bytes (Err Memory) h k fault f = inr refl
+told_of bytes (Err (BadLine at)) h k fault f = inl (one_fault bytes (BadLine at) fault k f)
+told_of bytes (Err (TooMany at)) h k fault f = inl (one_fault bytes (TooMany at) fault k f)
+told_of bytes (Err (UnknownRole at)) h k fault f = inl (one_fault bytes (UnknownRole at) fault k f)
+told_of bytes (Err (Cond at error)) h k fault f = inl (one_fault bytes (Cond at error) fault k f)
+told_of bytes (Err (Order error)) h k fault f = inl (one_fault bytes (Order error) fault k f)
+told_of bytes (Err Unended) h k fault f = inl (one_fault bytes Unended fault k f)

@@ -1,5 +1,5 @@
 -- Right lines keep the limits.
-use Rattle.std.proofs.Common.{ℕ, ◌≡◌, ◌<◌, ◌≤◌, List, [], ◌∷◌, ◌++◌, length, refl, arith, sym, subst, zero, suc}
+use Rattle.std.proofs.Common.{ℕ, ◌<◌, ◌≤◌, List, [], ◌∷◌, ◌++◌, length, arith, sym, subst, zero, suc}
 use Rattle.role_order.specs.declared.TheConstants.{MOST_ROLES}
 use Rattle.policy_text.specs.declared.TheConstants.{MOST_EDGES, MOST_RULES, MOST_USERS, MOST_ACTS, MOST_GOALS}
 use Rattle.policy_text.specs.Shapes.{Shape, a_role, an_edge, an_assign, a_revoke, a_user, an_act, a_goal}

@@ -1,22 +1,21 @@
 -- A line adds one thing, lines lead to one run, and numbers in it are roles.
-use Rattle.std.proofs.Common.{ℕ, ◌≡◌, ◌<◌, ◌≤◌, ◌+◌, ◌⊎◌, inl, inr, Bool, true, false, cond, ltb, List, [], ◌∷◌, ◌++◌, length, refl, arith, sym, ◌∙◌, ap, subst, Option, Some, None, map, zero, suc}
-use Rattle.std.specs.Prelude.{nat_lt, position}
+use Rattle.std.proofs.Common.{ℕ, ◌≡◌, ◌<◌, ◌+◌, Bool, true, false, cond, List, [], ◌∷◌, ◌++◌, length, refl, arith, sym, ◌∙◌, ap, subst, Some, None, map}
+use Rattle.std.specs.Prelude.{nat_lt}
 use Rattle.std.specs.List.{position_or_len}
 use Rattle.std.specs.Str.{bytes_eq}
 use Rattle.std.proofs.lemmas.Bool.Decides.{nat_tests}
 use Rattle.role_order.specs.declared.range.Range.{Range}
 use Rattle.role_order.specs.Lists.{Each}
-use Rattle.role_order.specs.Names.{place_of}
 use Rattle.arbac_policy.specs.declared.act.Act.{Act}
 use Rattle.arbac_policy.specs.declared.rule.CanAssign.{CanAssign}
 use Rattle.arbac_policy.specs.declared.rule.CanRevoke.{CanRevoke}
-use Rattle.arbac_policy.specs.Truth.{Term, term_of, IsKnown}
+use Rattle.arbac_policy.specs.Truth.{Term, IsKnown}
 use Rattle.arbac_policy.specs.Rules.{IsKnownRange, IsKnownAssign, IsKnownRevoke}
 use Rattle.cond_text.specs.Words.{words, placed_words}
 use Rattle.cond_text.proofs.CompleteLemmas.{one_term}
 use Rattle.cond_text.proofs.LimitLemmas.{fine_term}
 use Rattle.policy_text.specs.Shapes.{Shape, NamedRange, a_role, an_edge, an_assign, a_revoke, a_user, an_act, a_goal}
-use Rattle.policy_text.specs.Runs.{AssignRule, RunValue, nothing, plain_rule, MayStand, HasRoom, Names, NameEach, NamesRange, NamesSet, Says, set_of, Gains, Adds, AddAll, AreKnownGoals, StandsFor}
+use Rattle.policy_text.specs.Runs.{AssignRule, RunValue, nothing, plain_rule, Names, NameEach, NamesRange, NamesSet, Says, set_of, Gains, Adds, AddAll, AreKnownGoals, StandsFor}
 
 same_some : {A : Type 0} (x y : A) → Some x ≡ Some y → x ≡ y
 same_some x y e = cc

@@ -1,6 +1,6 @@
 -- What is read as a form is a line that the form spells.
-use Rattle.std.proofs.Common.{ℕ, ◌≡◌, ◌<◌, ◌^◌, ◌⊎◌, inl, inr, Bool, true, false, List, [], ◌∷◌, ◌++◌, append_assoc, length, refl, arith, sym, ◌∙◌, ap, subst, Option, Some, None, eqb, cond}
-use Rattle.std.specs.Prelude.{codes, option_and_then}
+use Rattle.std.proofs.Common.{ℕ, ◌≡◌, Bool, true, false, List, [], ◌∷◌, ◌++◌, append_assoc, length, refl, arith, sym, ◌∙◌, ap, subst, Option, Some, None, eqb, cond}
+use Rattle.std.specs.Prelude.{codes}
 use Rattle.std.specs.Fmt.{decimal}
 use Rattle.std.specs.Str.{IsUtf8, is_utf8, bytes_eq}
 use Rattle.std.proofs.lemmas.Bool.{eqb-true}
@@ -15,8 +15,8 @@ use Rattle.policy_text.specs.declared.line.Keyword.TheVariants as k
 use Rattle.policy_text.specs.Lines.{cut}
 use Rattle.policy_text.specs.Shapes.{Shape, NamedRange, a_role, an_edge, an_assign, a_revoke, a_user, an_act, a_goal, IsName, IsNamedRange, IsShape, spell, spell_kind, spell_range, spell_names}
 use Rattle.policy_text.specs.Spelling.{◌>>=◌, only_if, name_in, text_in, number_in, opening_in, closed_by, or_open, closing_in, range_in, kind_in, role_in, edge_in, assign_in, revoke_in, user_in, words, in_first, names_behind, act_in, goal_in, keyword_in, shape_with, shape_by, shape_of}
-use Rattle.policy_text.proofs.LineLemmas.{cut_joined, same_pair}
-use Rattle.policy_text.proofs.WordLemmas.{name_is, words_cut, words_one}
+use Rattle.policy_text.proofs.LineLemmas.{cut_joined}
+use Rattle.policy_text.proofs.WordLemmas.{name_is}
 use Rattle.policy_text.proofs.NumberLemmas.{number_is}
 
 -- a chain that comes to its end has come past each step

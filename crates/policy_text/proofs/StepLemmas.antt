@@ -1,6 +1,5 @@
 -- What one line does: from its form to the line, and from line to line.
-use Rattle.std.proofs.Common.{ℕ, ◌≡◌, ◌<◌, ◌≤◌, ◌+◌, ◌⊎◌, inl, inr, Bool, true, false, List, [], ◌∷◌, ◌++◌, append_assoc, length, refl, arith, sym, ◌∙◌, ap, subst, Option, Some, None, map, zero, suc, eqb, cond}
-use Rattle.std.proofs.Common.{length-append}
+use Rattle.std.proofs.Common.{ℕ, ◌≡◌, ◌≤◌, ◌+◌, inl, Bool, true, false, List, [], ◌∷◌, ◌++◌, length, refl, arith, sym, ◌∙◌, ap, subst, Some, None, map, zero, suc, eqb}
 use Rattle.std.specs.Str.{bytes_eq}
 use Rattle.std.proofs.lemmas.Bool.{eq-eqb, eqb-true}
 use Rattle.std.proofs.lemmas.Slice.Eq.{bytes_eq-Decides}
@@ -8,13 +7,12 @@ use Rattle.policy_text.proofs.WordLemmas.{and_left, and_right}
 use Rattle.std.specs.Prelude.{◌&&◌, not, codes, OnOk, IfErr, Result, Ok, Err}
 use Rattle.role_order.specs.Lists.{Each}
 use Rattle.role_order.specs.Refusals.{IsOrder}
-use Rattle.role_order.specs.declared.TheConstants.{MOST_ROLES}
 use Rattle.policy_text.specs.declared.run_error.RunError.{RunError}
 use Rattle.policy_text.specs.declared.run_error.RunError.TheVariants.{BadLine, UnknownRole, Order, Cond, TooMany, Unended, Memory}
-use Rattle.policy_text.specs.Lines.{split, cut, first_word, is_order_line}
-use Rattle.policy_text.specs.Shapes.{Shape, a_role, an_edge, an_assign, a_revoke, a_user, an_act, a_goal, IsShape, tells_order, condition_of, spell, spell_kind, spell_range, spell_names}
+use Rattle.policy_text.specs.Lines.{split, cut, is_order_line}
+use Rattle.policy_text.specs.Shapes.{Shape, a_role, an_edge, an_assign, a_revoke, a_user, an_act, a_goal, IsShape, tells_order, condition_of, spell, spell_range}
 use Rattle.policy_text.specs.Spelling.{shape_of}
-use Rattle.policy_text.specs.Runs.{RunValue, nothing, MayStand, HasRoom, Gains, Adds, AddAll, behind_edges, behind_roles}
+use Rattle.policy_text.specs.Runs.{RunValue, MayStand, Adds, AddAll, behind_edges}
 use Rattle.policy_text.specs.Faults.{IsPlaced, IsLineFault, IsPastOrder, EndsOrder}
 use Rattle.policy_text.specs.Steps.{IsFormFault, AddsLine, Passes, StopsAt, Told, GoesOn, HasNoEnd, EndsWith, IsBodyFault}
 use Rattle.policy_text.proofs.LineLemmas.{split_none, split_first, split_empty, nothing_left}

@@ -1,11 +1,11 @@
 -- The set of the roles that a line names.
-use Rattle.std.proofs.Common.{ℕ, ◌≡◌, ◌<◌, ◌≤◌, ◌+◌, List, [], ◌∷◌, ◌++◌, length, take, refl, arith, sym, ◌∙◌, ap, subst, Option, Some, None, fold, map, get_or, zero, suc}
+use Rattle.std.proofs.Common.{ℕ, ◌≡◌, ◌<◌, ◌≤◌, ◌+◌, List, [], ◌∷◌, ◌++◌, length, take, refl, arith, sym, ◌∙◌, ap, subst, Some, None, fold, map, get_or, zero, suc}
 use Rattle.std.specs.Prelude.{slice_get}
 use Rattle.role_order.specs.Names.{place_of}
 use Rattle.role_order.specs.Roles.{with_role}
 use Rattle.role_order.specs.Lists.{Some_of}
 use Rattle.role_order.proofs.ListLemmas.{take_one_more, take_all, some_at}
-use Rattle.policy_text.specs.Runs.{Names, NameEach, NamesSet, set_of}
+use Rattle.policy_text.specs.Runs.{Names, NameEach, NamesSet}
 use Rattle.policy_text.specs.Faults.{IsUnknown}
 
 each_more : (names words : List (List ℕ)) (roles : List ℕ) (word : List ℕ) (role : ℕ) → NameEach names words roles → Names names word role → NameEach names (words ++ word ∷ []) (roles ++ role ∷ [])

@@ -1,18 +1,19 @@
 -- The first fault of a text that is no run text.
-use Rattle.std.specs.Prelude.{ℕ, ◌≡◌, ◌+◌, ◌⊎◌, true, false, List, [], ◌∷◌, length, None, codes}
+use Rattle.std.specs.Prelude.{ℕ, ◌≡◌, ◌+◌, ◌⊎◌, true, false, List, [], ◌∷◌, length, None, codes, Result, Ok, Err}
 use Rattle.role_order.specs.declared.order.OrderError.{OrderError}
 use Rattle.role_order.specs.declared.order.OrderError.TheVariants as refusals
 use Rattle.role_order.specs.Lists.{Some_of}
 use Rattle.role_order.specs.Names.{place_of}
-use Rattle.role_order.specs.Refusals.{IsOrder, IsRefused}
+use Rattle.role_order.specs.Refusals.{IsOrder, IsRefused as IsRefusedOrder}
 use Rattle.cond_text.specs.declared.cond_error.CondError.{CondError}
 use Rattle.cond_text.specs.declared.cond_error.CondError.TheVariants as conditions
 use Rattle.cond_text.specs.Reading.{IsRefused as IsRefusedCond}
+use Rattle.policy_text.specs.declared.run.Run.{Run}
 use Rattle.policy_text.specs.declared.run_error.RunError.{RunError}
 use Rattle.policy_text.specs.declared.run_error.RunError.TheVariants.{BadLine, UnknownRole, Order, Cond, TooMany, Unended, Memory}
 use Rattle.policy_text.specs.Lines.{split, is_order_line}
 use Rattle.policy_text.specs.Shapes.{Shape, NamedRange, a_role, an_edge, an_assign, a_revoke, a_user, an_act, a_goal, IsShape, spell}
-use Rattle.policy_text.specs.Runs.{RunValue, behind_edges, MayStand, HasRoom, IsReadTo, nothing}
+use Rattle.policy_text.specs.Runs.{RunValue, behind_edges, MayStand, HasRoom, IsReadTo}
 
 -- the name is that of no role
 abbrev pub IsUnknown : List (List ℕ) → List ℕ → Type 0
@@ -109,7 +110,7 @@ pub record IsOrderFault (bytes : List ℕ) (error : OrderError) : Type 0 where
   pub read : IsReadTo bytes run number left part
   pub early : behind_edges run ≡ 0
   pub ends : EndsOrder left
-  pub refused : IsRefused run.names run.edges error
+  pub refused : IsRefusedOrder run.names run.edges error
   pub told : ¬ (error ≡ refusals.Memory)
 
 -- all whole lines are right, and none is `end`
@@ -128,4 +129,19 @@ IsFirstFault bytes (UnknownRole at) = IsFaultInside bytes (UnknownRole at)
 IsFirstFault bytes (Cond at error) = IsFaultInside bytes (Cond at error)
 IsFirstFault bytes (Order error) = (((split bytes).0 ≡ []) × (error ≡ refusals.NoRoles)) ⊎ IsOrderFault bytes error
 IsFirstFault bytes Unended = IsUnended bytes
-IsFirstFault bytes Memory = Unit {0}
+IsFirstFault bytes Memory = ⊥
+
+-- the error is the text's first fault, or want of memory
+abbrev pub IsRefused : List ℕ → RunError → Type 0
+IsRefused bytes (BadLine at) = IsFirstFault bytes (BadLine at)
+IsRefused bytes (TooMany at) = IsFirstFault bytes (TooMany at)
+IsRefused bytes (UnknownRole at) = IsFirstFault bytes (UnknownRole at)
+IsRefused bytes (Cond at error) = IsFirstFault bytes (Cond at error)
+IsRefused bytes (Order error) = IsFirstFault bytes (Order error)
+IsRefused bytes Unended = IsFirstFault bytes Unended
+IsRefused bytes Memory = Unit {0}
+
+-- reading tells the fault, unless memory runs out
+abbrev pub Tells : Result Run RunError → RunError → Type 0
+Tells (Ok run) fault = ⊥
+Tells (Err error) fault = (error ≡ fault) ⊎ (error ≡ Memory)

@@ -1,5 +1,5 @@
 -- What one line does behind what was read so far, as the private functions say it.
-use Rattle.std.specs.Prelude.{ℕ, ◌≡◌, List, [], ◌∷◌, ◌++◌, ◌+◌, ◌≤◌, ◌⊎◌, map, length, true, codes}
+use Rattle.std.specs.Prelude.{ℕ, ◌≡◌, List, [], ◌∷◌, ◌++◌, ◌+◌, ◌≤◌, ◌⊎◌, map, length, codes}
 use Rattle.role_order.specs.declared.order.OrderError.TheVariants as refusals
 use Rattle.role_order.specs.Refusals.{IsOrder, IsRefused}
 use Rattle.role_order.specs.Graph.{Graph}

@@ -1,8 +1,5 @@
 -- What the code's types are seen as.
-use Rattle.std.specs.Prelude.{ℕ, List, [], map}
-use Rattle.role_order.specs.Names.{texts}
-use Rattle.role_order.specs.Graph.{Graph}
-use Rattle.arbac_policy.specs.Truth.{term_of}
+use Rattle.std.specs.Prelude.{map}
 use Rattle.policy_text.specs.declared.line.NamedRange as c
 use Rattle.policy_text.specs.declared.line.Line.{Line}
 use Rattle.policy_text.specs.declared.line.Line.TheVariants as v

@@ -4,8 +4,9 @@ ghost use Rattle.std.specs.Prelude.{ℕ, ◌≡◌, ◌<◌, ◌≤◌, ◌+◌,
 ghost use Rattle.role_order.specs.Names.{texts};
 ghost use Rattle.role_order.specs.Refusals.{IsOrder};
 ghost use Rattle.arbac_policy.specs.Rules.{IsPolicy, AreCountable, policy_of as rules_of};
+ghost use Rattle.policy_text.specs.declared.run_error.RunError.{RunError};
 ghost use Rattle.policy_text.specs.Runs.{RunValue, StandsFor, Reads, plain_of, IsForUsers, KeepsLimits, AreKnownGoals};
-ghost use Rattle.policy_text.specs.Faults.{IsFirstFault};
+ghost use Rattle.policy_text.specs.Faults.{IsFirstFault, IsRefused, Tells};
 ghost use Rattle.policy_text.specs.Steps.{IsOrderTold, run_view};
 
 use crate::body::{Body, read_body};
@@ -79,7 +80,7 @@ fn read(alloc: Global, bytes: &[u8]) -> Result<Run, RunError>
     requires { length bytes.now < 2 ^ 32 }
     ensures found { IfOk result (λ run. StandsFor bytes.now (plain_of run)) }
     ensures users { IfOk result (λ run. IsForUsers run.policy) }
-    ensures first { IfErr result (IsFirstFault bytes.now) }
+    ensures first { IfErr result (IsRefused bytes.now) }
 {
     let Some((line, rest)) = cut(bytes, b'\n') else {
         return Err(RunError::Order(OrderError::NoRoles));
@@ -116,7 +117,9 @@ pub fn read_run(alloc: Global, bytes: &[u8]) -> Result<Run, RunError>
     // A text that stands for a run is read as that run.
     ensures only { (run : RunValue) → StandsFor bytes.now run → Reads result run }
     // An error is the first fault.
-    ensures first { IfErr result (IsFirstFault bytes.now) }
+    ensures first { IfErr result (IsRefused bytes.now) }
+    // A text that has a first fault is refused with it.
+    ensures told { (fault : RunError) → IsFirstFault bytes.now fault → Tells result fault }
     // A text stands for one run at most.
     ensures one { (left right : RunValue) → StandsFor bytes.now left → StandsFor bytes.now right → left ≡ right }
 {

@@ -1,4 +1,4 @@
-use Rattle.std.proofs.Common.{ℕ, ◌≡◌, ◌≤◌, ◌+◌, length}
+use Rattle.std.proofs.Common.{◌≡◌, ◌≤◌, ◌+◌, length}
 use Rattle.policy_text.specs.Lines.{split}
 use Rattle.policy_text.specs.Runs.{behind_edges}
 use Rattle.policy_text.specs.Faults.{EndsOrder}

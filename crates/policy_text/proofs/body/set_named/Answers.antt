@@ -1,4 +1,4 @@
-use Rattle.std.proofs.Common.{◌≤◌, length, arith, sym, map}
+use Rattle.std.proofs.Common.{arith, sym, map}
 use Rattle.policy_text.proofs.UserLemmas.{set_more, set_all, unknown_at, map_at, map_long}
 use Rattle.policy_text.proofs.body.set_named.Goals as goal
 

@@ -1,4 +1,4 @@
-use Rattle.std.proofs.Common.{◌≡◌, ◌∙◌, sym, map}
+use Rattle.std.proofs.Common.{◌∙◌, sym, map}
 use Rattle.policy_text.proofs.WordLemmas.{names_more, names_last, map-pushed}
 use Rattle.policy_text.proofs.line.names_of.Goals as goal
 

@@ -1,4 +1,4 @@
-use Rattle.std.proofs.Common.{ℕ, ◌≡◌, [], map, length}
+use Rattle.std.proofs.Common.{◌≡◌, [], map, length}
 use Rattle.policy_text.specs.Spelling.{names_behind, words}
 use Rattle.policy_text.proofs.line.names_of.Given as goal
 

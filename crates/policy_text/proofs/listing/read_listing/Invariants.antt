@@ -1,4 +1,4 @@
-use Rattle.std.proofs.Common.{ℕ, ◌≤◌, ◌+◌, length}
+use Rattle.std.proofs.Common.{◌≤◌, ◌+◌, length}
 use Rattle.policy_text.specs.Runs.{nothing}
 use Rattle.policy_text.specs.Steps.{listing_view, Passes}
 use Rattle.policy_text.proofs.listing.read_listing.Given as goal

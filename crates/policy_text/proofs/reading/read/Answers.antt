@@ -1,9 +1,8 @@
-use Rattle.std.proofs.Common.{◌≡◌, ◌<◌, ◌≤◌, ◌+◌, ◌∙◌, sym, arith, refl, subst, length, true}
+use Rattle.std.proofs.Common.{◌∙◌, sym, arith, refl, subst}
 use Rattle.std.specs.Prelude.{codes}
 use Rattle.std.proofs.lemmas.Bool.{false≢true}
 use Rattle.std.proofs.lemmas.Slice.Eq.{bytes_eq-Decides}
 use Rattle.std.proofs.lemmas.Result.{err_from_is_err_and}
-use Rattle.role_order.specs.Names.{texts}
 use Rattle.role_order.proofs.NameLemmas.{length_texts}
 use Rattle.policy_text.specs.Runs.{StandsFor}
 use Rattle.policy_text.specs.Steps.{listing_view, order_view, run_view}

@@ -1,4 +1,4 @@
-use Rattle.std.proofs.Common.{◌≡◌, ◌<◌, ◌≤◌, ◌+◌, ◌∙◌, ◌++◌, ◌∷◌, [], List, ap, arith, sym, rules, map}
+use Rattle.std.proofs.Common.{List, ap, arith, sym, rules}
 use Rattle.policy_text.specs.Runs.{AssignRule, plain_rule}
 use Rattle.policy_text.specs.Steps.{run_view}
 use Rattle.policy_text.proofs.WordLemmas.{map-pushed}

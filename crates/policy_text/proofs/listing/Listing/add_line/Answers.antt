@@ -1,4 +1,4 @@
-use Rattle.std.proofs.Common.{◌≡◌, ◌∙◌, ap, sym, refl}
+use Rattle.std.proofs.Common.{◌∙◌, ap, sym, refl}
 use Rattle.std.specs.Option.{option_map}
 use Rattle.policy_text.specs.Views.{shape_view}
 use Rattle.policy_text.specs.Steps.{listing_view}

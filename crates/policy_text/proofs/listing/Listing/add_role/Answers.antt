@@ -1,7 +1,6 @@
-use Rattle.std.proofs.Common.{ℕ, ◌≡◌, ◌<◌, ◌≤◌, ◌+◌, ◌∙◌, ◌++◌, ◌∷◌, [], List, ap, arith, length, sym, rules}
+use Rattle.std.proofs.Common.{ℕ, ◌∙◌, ◌++◌, ◌∷◌, [], List, ap, arith, rules}
 use Rattle.role_order.proofs.NameLemmas.{texts-push, length_texts}
 use Rattle.role_order.specs.Names.{texts}
-use Rattle.role_order.specs.declared.TheConstants.{MOST_ROLES}
 use Rattle.policy_text.specs.Runs.{nothing}
 use Rattle.policy_text.proofs.listing.Listing.add_role.Goals as goal
 
