@@ -10,7 +10,9 @@ use Rattle.arbac_desk.specs.Faults.{malformed_line, run_text}
 use Rattle.arbac_desk.specs.Replies.{IsDone, IsUnmet, IsStopped, IsMalformed, IsNoRun, IsReplyText, RepliesTo}
 use Rattle.policy_text.specs.declared.run_error.RunError.{RunError}
 use Rattle.policy_text.specs.declared.run_error.RunError.TheVariants as runs
-use Rattle.arbac_policy.specs.declared.cond.Cond.{Cond}
+use Rattle.policy_text.specs.declared.run_error.RunError.TheVariants.{BadLine, UnknownRole, Order, Cond, TooMany, Unended, Memory}
+use Rattle.policy_text.specs.Faults.{IsFirstFault, IsRefused}
+use Rattle.arbac_policy.specs.declared.cond.Cond.{Cond as Condition}
 use Rattle.arbac_policy.specs.Truth.{term_of, IsKnown}
 use Rattle.policy_text.specs.Runs.{RunValue, StandsFor}
 
@@ -117,6 +119,15 @@ if_answered name (Some bytes) result H O old new known malformed read write = λ
     by_status value stands few no_read no_write (inr (inr (inr (inr (inl e))))) = absurd (no_write (write e))
     by_status value stands few no_read no_write (inr (inr (inr (inr (inr e))))) = inr (inr e)
 
-pub known_conds : (count : ℕ) (conds : List Cond) → Each (IsKnown count) (map term_of conds) → Each (λ cond. IsKnown count (term_of cond)) conds
+pub known_conds : (count : ℕ) (conds : List Condition) → Each (IsKnown count) (map term_of conds) → Each (λ cond. IsKnown count (term_of cond)) conds
 known_conds count [] known = known
 known_conds count (cond ∷ conds) known = (known.0, known_conds count conds known.1)
+
+pub first_fault : (bytes : List ℕ) (error : RunError) → IsRefused bytes error → (error ≡ runs.Memory → ⊥) → IsFirstFault bytes error
+first_fault bytes (BadLine at) refused told = refused
+first_fault bytes (UnknownRole at) refused told = refused
+first_fault bytes (Order error) refused told = refused
+first_fault bytes (Cond at error) refused told = refused
+first_fault bytes (TooMany at) refused told = refused
+first_fault bytes Unended refused told = refused
+first_fault bytes Memory refused told = absurd (told refl)

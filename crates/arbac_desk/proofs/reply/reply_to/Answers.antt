@@ -1,7 +1,7 @@
 use Rattle.std.proofs.Common.{ℕ, ◌≡◌, ◌∙◌, ◌≤◌, inr, sym, length}
 use Rattle.std.proofs.lemmas.Bool.{false≢true}
 use Rattle.policy_text.specs.declared.run_error.RunError.TheVariants as runs
-use Rattle.arbac_desk.proofs.ReplyLemmas.{no_value, known_conds}
+use Rattle.arbac_desk.proofs.ReplyLemmas.{no_value, known_conds, first_fault}
 use Rattle.arbac_desk.proofs.reply.reply_to.Goals as goal
 
 pub returns-in_ok-malformed-in-Err : goal.returns-in_ok-malformed-in-Err
@@ -11,7 +11,7 @@ returns-in_ok-malformed-in-Err c =
       c.if-bytes-gt-MOST_RUN_BYTES.false,
       c.in-Err.error,
       record {
-        first = c.in-Err.ensures.first;
+        first = first_fault c.args.bytes.now c.in-Err.error c.in-Err.ensures.first told;
         told = told;
         none = no_value c.args.bytes.now c.in-Err.error c.in-Err.ensures.only told;
       },
