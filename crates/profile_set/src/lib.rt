@@ -1,0 +1,9 @@
+//! Named profiles: names, and choices of profiles that a population can be drawn by.
+#![tactic(auto)]
+
+mod choice;
+mod name;
+
+pub use choice::undrawn;
+pub use name::Name;
+pub use std::alloc::AllocError as NoMemory;
