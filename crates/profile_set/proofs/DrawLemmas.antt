@@ -25,7 +25,7 @@ times_other number xs i x e other = times_more number xs i x e ∙ ap (λ t. tim
 -- a number at a place stands once more in the whole than before the place
 pub times_past : (xs : List ℕ) (i x : ℕ) → slice_get xs i ≡ Some x → times x (take i xs) + 1 ≤ times x xs
 times_past [] i x e = cc
-times_past (y ∷ ys) zero x e = let same : y ≡ x = cc in rw (same, eqb-refl x) (omega arith)
+times_past (y ∷ ys) zero x e = let same : y ≡ x = cc in let one : eqb y x ≡ true = grind (arith, nat_tests) in rw one (omega arith)
 times_past (y ∷ ys) (suc i) x e = let r = times_past ys i x e in omega (arith, r)
 
 pub left_profile : (o : Option Profile) (used : ℕ) → has_left o used ≡ true → (profile : Profile) × (o ≡ Some profile)
