@@ -45,6 +45,7 @@ drawn_last profiles xs x drawn left = record {
     by_place : (place : ℕ) → {k : ℕ} → (slice_get xs k ≡ Some place) ⊎ ((k ≡ length xs) × (x ≡ place)) → (profile : Profile) × (slice_get profiles place ≡ Some profile)
     by_place place {k} (inl e) = drawn.places k place e
     by_place place (inr e) = subst (λ p. (profile : Profile) × (slice_get profiles p ≡ Some profile)) e.1 (left_profile (slice_get profiles x) (times x xs) left)
+
     by_same : (place : ℕ) (profile : Profile) (most : ℕ) → slice_get profiles place ≡ Some profile → profile.most ≡ Some most → (t : Bool) → eqb x place ≡ t → times place (xs ++ x ∷ []) ≤ most
     by_same place profile most e m false t =
         let count : times place (xs ++ x ∷ []) ≡ times place xs + 0 = times_last place xs x ∙ ap (λ t. times place xs + (if t then 1 else 0)) t in

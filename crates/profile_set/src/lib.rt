@@ -3,6 +3,8 @@
 
 mod choice;
 mod name;
+#[cfg(test)]
+mod tests;
 
 pub use choice::undrawn;
 pub use name::Name;
