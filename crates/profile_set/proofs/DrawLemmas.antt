@@ -3,7 +3,7 @@ use Rattle.std.proofs.lemmas.Bool.{eqb-true}
 use Rattle.std.proofs.lemmas.Bool.Decides.{nat_tests}
 use Rattle.std.proofs.Common.{ℕ, ◌≡◌, ◌<◌, ◌≤◌, ◌+◌, Bool, true, false, eqb, ltb, List, [], ◌∷◌, ◌++◌, length, take, refl, arith, zero, suc, sym, subst, ap, ◌∙◌, inl, inr, Option, Some, None}
 use Rattle.std.specs.Prelude.{slice_get, ◌⊎◌, ◌==◌, if◌then◌else◌}
-use Rattle.role_order.proofs.ListLemmas.{get_last, take_one_more, take_all}
+use Rattle.role_order.proofs.ListLemmas.{get_last, take_one_more}
 use Rattle.arbac_policy.specs.declared.profile.Profile.{Profile}
 use Rattle.arbac_policy.specs.Goals.{times, IsDrawnChoice}
 use Rattle.profile_set.specs.Draws.{IsSpent, is_below, has_left}

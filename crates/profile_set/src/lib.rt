@@ -1,4 +1,4 @@
-//! Named profiles: names, and choices of profiles that a population can be drawn by.
+//! Names, and choices of profiles that a population can be drawn by.
 #![tactic(auto)]
 
 mod choice;

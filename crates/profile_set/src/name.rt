@@ -1,6 +1,6 @@
-//! Names of profiles.
+//! Names: short texts of letters, digits and three signs.
 
-ghost use Rattle.std.specs.Prelude.{◌≡◌, true, false, MatchOption, IfOk, nat_le, ◌&&◌};
+ghost use Rattle.std.specs.Prelude.{◌≡◌, true, false, IfSome, IfNone, IfOk};
 ghost use Rattle.std.specs.List.{list_all};
 ghost use Rattle.std.specs.Str.{bytes_eq};
 ghost use Rattle.std.specs.Cmp.{partial_order_from_own_ties};
@@ -56,9 +56,9 @@ fn is_name(text: &str) -> bool
 impl Name {
     /// The name with this text. None exactly where the text is no name.
     pub fn new(alloc: Global, text: &str) -> Result<Option<Name>, AllocError>
-        ensures { IfOk result (λ made. MatchOption made
-            (name text.now ≡ false)
-            (λ new. (new ≡ text.now) × (name text.now ≡ true))) }
+        ensures text { IfOk result (λ made. IfSome made (λ new. new ≡ text.now)) }
+        ensures name { IfOk result (λ made. IfSome made (λ new. name text.now ≡ true)) }
+        ensures none { IfOk result (λ made. IfNone made (name text.now ≡ false)) }
     {
         if !is_name(text) {
             return Ok(None);

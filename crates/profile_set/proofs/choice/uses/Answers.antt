@@ -1,4 +1,4 @@
-use Rattle.std.proofs.Common.{arith, ◌≡◌, Bool, true, false, eqb}
+use Rattle.std.proofs.Common.{arith, ◌≡◌, true, false, eqb}
 use Rattle.std.proofs.lemmas.Bool.Decides.{nat_tests}
 use Rattle.std.specs.Prelude.{slice_index_or}
 use Rattle.role_order.proofs.ListLemmas.{get_at}
