@@ -95,7 +95,7 @@ pub fn added_lists(
     lefts: Vec<Conjunct>,
     rights: Vec<Conjunct>,
 ) -> Result<Vec<Conjunct>, AllocError>
-    ensures { IfOk result (λ all. needs_of all.items ≡ needs_of lefts.items ++ needs_of rights.items) }
+    ensures { IfOk result (λ all. all.items ≡ lefts.items ++ rights.items) }
 {
     let mut all = lefts;
     for right in rights {
