@@ -1,5 +1,5 @@
 -- Lists of conjuncts that grow by one at a time.
-use Rattle.std.proofs.Common.{ℕ, ◌≡◌, ◌≤◌, ◌<◌, ◌+◌, ◌∙◌, List, [], ◌∷◌, ◌++◌, length, map, take, get_or, Some, refl, zero, suc, ap, sym, append_assoc, arith}
+use Rattle.std.proofs.Common.{ℕ, ◌≡◌, ◌≤◌, ◌<◌, ◌+◌, ◌∙◌, List, [], ◌∷◌, ◌++◌, length, take, get_or, Some, refl, zero, suc, ap, sym, append_assoc, arith}
 use Rattle.std.specs.List.{slice_get}
 use Rattle.std.proofs.lemmas.List.{append-nil, map_push, map-append}
 use Rattle.role_order.proofs.ListLemmas.{take_all, take_one_more}

@@ -1,5 +1,5 @@
 -- The number of conjuncts is the length of their list, and no more than a power of two.
-use Rattle.std.proofs.Common.{ℕ, ◌≡◌, ◌≤◌, ◌<◌, ◌+◌, ◌*◌, ◌^◌, ◌∙◌, List, [], ◌∷◌, ◌++◌, length, refl, suc, ap, sym, arith, subst}
+use Rattle.std.proofs.Common.{ℕ, ◌≡◌, ◌≤◌, ◌<◌, ◌+◌, ◌*◌, ◌^◌, ◌∙◌, List, [], ◌∷◌, length, refl, suc, ap, sym, arith, subst}
 use Rattle.std.proofs.Math.Nat.{mul-le-mul, mul-le-mul_left, mul-le-mul_right, le_trans, zero-mul, suc-mul}
 use Rattle.std.proofs.Math.Pow.{pow_mono}
 use Rattle.std.proofs.lemmas.Nat.{pow-add}
@@ -8,7 +8,7 @@ use Rattle.role_order.specs.Graph.{Graph}
 use Rattle.arbac_policy.specs.Truth.{Term, any, has, lacks, both, either}
 use Rattle.cond_text.specs.Grammar.{term_count}
 use Rattle.arbac_laws.specs.Needs.{Need}
-use Rattle.arbac_laws.specs.Conjuncts.{conjuncts, join_all, join_needs, join_with}
+use Rattle.arbac_laws.specs.Conjuncts.{conjuncts, join_all, join_with}
 use Rattle.arbac_rules.specs.Widths.{width}
 
 pub with_length : (a : Need) (bs : List Need) → length (join_with a bs) ≡ length bs
@@ -62,7 +62,7 @@ width_bound (both t u) =
 width_bound (either t u) =
     subst (λ n. width t + width u ≤ n) (sym (pow-add 2 (term_count t) (term_count u)))
     (sums (width t) (width u) (2 ^ term_count t) (2 ^ term_count u) (width_bound t) (width_bound u)
-        (sum_within (2 ^ term_count t) (2 ^ term_count u) (pow_mono (some_terms t)) (pow_mono (some_terms u))))
+    (sum_within (2 ^ term_count t) (2 ^ term_count u) (pow_mono (some_terms t)) (pow_mono (some_terms u))))
   where
     sums : (a b m n : ℕ) → a ≤ m → b ≤ n → m + n ≤ m * n → a + b ≤ m * n
     sums a b m n p q r = omega (p, q, r, arith)

@@ -50,7 +50,8 @@ impl Conjunct {
 
 /// The hits and the lacks of both.
 fn joined(alloc: Global, first: &Conjunct, second: &Conjunct) -> Result<Conjunct, AllocError>
-    ensures { IfOk result (λ both. need_of both ≡ join_needs (need_of first.now) (need_of second.now)) }
+    ensures { IfOk result (λ both. need_of both
+        ≡ join_needs (need_of first.now) (need_of second.now)) }
 {
     let mut hits = Vec::new(alloc);
     hits.extend_from_slice(&first.hits)?;
@@ -81,7 +82,8 @@ pub fn joined_lists(
     lefts: &[Conjunct],
     rights: &[Conjunct],
 ) -> Result<Vec<Conjunct>, AllocError>
-    ensures { IfOk result (λ all. needs_of all.items ≡ join_all (needs_of lefts.now) (needs_of rights.now)) }
+    ensures { IfOk result (λ all. needs_of all.items
+        ≡ join_all (needs_of lefts.now) (needs_of rights.now)) }
 {
     let mut all = Vec::new(alloc);
     for left in lefts {
@@ -91,10 +93,7 @@ pub fn joined_lists(
 }
 
 /// The left ones, and behind them the right ones.
-pub fn added_lists(
-    lefts: Vec<Conjunct>,
-    rights: Vec<Conjunct>,
-) -> Result<Vec<Conjunct>, AllocError>
+pub fn added_lists(lefts: Vec<Conjunct>, rights: Vec<Conjunct>) -> Result<Vec<Conjunct>, AllocError>
     ensures { IfOk result (λ all. all.items ≡ lefts.items ++ rights.items) }
 {
     let mut all = lefts;

@@ -25,7 +25,8 @@ pub enum WideError {
 /// The list of conjuncts, however long.
 fn list_all(alloc: Global, order: &Order, cond: &Cond) -> Result<Vec<Conjunct>, AllocError>
     requires { IsKnown (length order.now.names) (term_of cond.now) }
-    ensures { IfOk result (λ list. needs_of list.items ≡ conjuncts_law order.now (term_of cond.now)) }
+    ensures { IfOk result (λ list. needs_of list.items
+        ≡ conjuncts_law order.now (term_of cond.now)) }
 {
     match cond {
         Cond::Any => Ok(list_of(alloc, Conjunct::of_any(alloc))?),
@@ -50,8 +51,10 @@ fn list_all(alloc: Global, order: &Order, cond: &Cond) -> Result<Vec<Conjunct>, 
 pub fn conjuncts(alloc: Global, order: &Order, cond: &Cond) -> Result<Vec<Conjunct>, WideError>
     requires terms { term_count (term_of cond.now) ≤ MOST_TERMS }
     requires known { IsKnown (length order.now.names) (term_of cond.now) }
-    ensures list { IfOk result (λ list. needs_of list.items ≡ conjuncts_law order.now (term_of cond.now)) }
-    ensures few { IfOk result (λ _. length (conjuncts_law order.now (term_of cond.now)) ≤ MOST_CONJUNCTS) }
+    ensures list { IfOk result (λ list. needs_of list.items
+        ≡ conjuncts_law order.now (term_of cond.now)) }
+    ensures few { IfOk result (λ _. length (conjuncts_law order.now (term_of cond.now))
+        ≤ MOST_CONJUNCTS) }
     ensures wide { IfErr result (IsTooWide (conjuncts_law order.now (term_of cond.now))) }
 {
     let count = width_of(cond);
