@@ -3,6 +3,8 @@
 
 mod conjunct;
 mod listing;
+#[cfg(test)]
+mod tests;
 mod width;
 
 pub use arbac_policy::{

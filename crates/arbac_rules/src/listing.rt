@@ -15,6 +15,7 @@ use role_order::Order;
 use std::alloc::{AllocError, Global};
 
 /// Why the conjuncts of a condition are not listed.
+#[derive(Clone, Copy, Debug, PartialEq, Eq)]
 pub enum WideError {
     /// The list would have this many, more than `MOST_CONJUNCTS`.
     TooWide { count: u128 },
