@@ -42,6 +42,16 @@ fn order_of(rt: &impl Abort, alloc: Global) -> Result<Order, Fail> {
     Ok(Order::new(alloc, names, edges)?)
 }
 
+/// Four roles, none above another.
+fn flat_order(rt: &impl Abort, alloc: Global) -> Result<Order, Fail> {
+    let mut names = Vec::new(alloc);
+    for name in ["a", "b", "c", "d"] {
+        names.push(String::from_str(alloc, name)?)?;
+    }
+    assert!(rt; names.len() == 4);
+    Ok(Order::new(alloc, names, Vec::new(alloc))?)
+}
+
 fn write_set(order: &Order, set: &RoleSet, out: &mut String) -> Result<(), AllocError> {
     out.push_str("[")?;
     for role in 0..order.count() {
@@ -100,5 +110,17 @@ fn conjuncts_are_listed(rt: HostRuntime) -> Result<(), Fail> {
         };
         assert_eq!(rt; out.as_str(), answer, "at {times}");
     }
+    Ok(())
+}
+
+#[test]
+fn the_left_conjuncts_are_the_slowest(rt: HostRuntime) -> Result<(), Fail> {
+    let alloc = rt.alloc();
+    let order = flat_order(&rt, alloc)?;
+    let mut out = String::new(alloc);
+    if let Ok(list) = listed(&rt, alloc, &order, "(a or b) and (c or d)")? {
+        write_list(&order, &list, &mut out)?;
+    }
+    assert_eq!(rt; out.as_str(), "[a][c]-[];[a][d]-[];[b][c]-[];[b][d]-[];");
     Ok(())
 }
