@@ -11,6 +11,7 @@ use Rattle.std.proofs.lemmas.Slice.Eq.{bytes_eq-Decides}
 use Rattle.role_order.specs.Lists.{Each}
 use Rattle.role_order.specs.Names.{is_name_byte, is_name, is_reserved, is_role_name, place_of, AreDifferent}
 use Rattle.role_order.specs.Refusals.{AreNames}
+use Rattle.role_order.specs.declared.TheConstants.{MOST_NAME_BYTES}
 use Rattle.cond_text.specs.declared.word.Word.TheVariants.{Name}
 use Rattle.cond_text.specs.Words.{word_of}
 
@@ -59,10 +60,10 @@ not_empty name h e = false≢true (ap (λ (n : List ℕ). nat_le 1 (length n)) (
 free_name : (name : List ℕ) → is_role_name name ≡ true → IsFree name
 unfolding is_role_name is_name is_reserved
 free_name name h =
-    let parts = both_true (nat_le 1 (length name) && nat_le (length name) 64 && list_all is_name_byte name)
+    let parts = both_true (nat_le 1 (length name) && nat_le (length name) MOST_NAME_BYTES && list_all is_name_byte name)
     (not (bytes_eq name (codes "any") || bytes_eq name (codes "not") || bytes_eq name (codes "and") || bytes_eq name (codes "or"))) h in
-    let named = both_true (nat_le 1 (length name) && nat_le (length name) 64) (list_all is_name_byte name) parts.0 in
-    let long = both_true (nat_le 1 (length name)) (nat_le (length name) 64) named.0 in
+    let named = both_true (nat_le 1 (length name) && nat_le (length name) MOST_NAME_BYTES) (list_all is_name_byte name) parts.0 in
+    let long = both_true (nat_le 1 (length name)) (nat_le (length name) MOST_NAME_BYTES) named.0 in
     let three = both_false (bytes_eq name (codes "any") || bytes_eq name (codes "not") || bytes_eq name (codes "and")) (bytes_eq name (codes "or")) (not_true _ parts.1) in
     let two = both_false (bytes_eq name (codes "any") || bytes_eq name (codes "not")) (bytes_eq name (codes "and")) three.0 in
     let one = both_false (bytes_eq name (codes "any")) (bytes_eq name (codes "not")) two.0 in

@@ -4,10 +4,10 @@ use std::alloc::AllocError;
 
 /// The first fault of a text that is no condition within the limits. Places are bytes from 0.
 ///
-/// At one byte `Unexpected` is told before `TooDeep`, and `TooDeep` before `UnknownRole`.
+/// Where one byte has several, the form goes first, then the limits, then the names.
 #[derive(Clone, Copy, Debug, PartialEq, Eq)]
 pub enum CondError {
-    /// A word that can't stand here, or the text's length where the text ends too soon.
+    /// No condition goes on with the word here; or the text ends before the condition does.
     Unexpected { place: u32 },
     /// A name that is no role's.
     UnknownRole { place: u32 },

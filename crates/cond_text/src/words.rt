@@ -7,14 +7,8 @@ ghost use Rattle.role_order.specs.Names.{is_name_byte as is_byte};
 ghost use Rattle.cond_text.specs.Words.{role_or_count as role_number, word_of as word_named, sign as sign_word, word_at as word_begun, placed, placed_words as listed};
 
 use crate::word::{Placed, Word};
-use role_order::Order;
+use role_order::{Order, is_name_byte};
 use std::alloc::{AllocError, Global};
-
-fn is_name_byte(b: u8) -> bool
-    ensures { result ≡ is_byte b }
-{
-    matches!(b, b'A'..=b'Z' | b'a'..=b'z' | b'0'..=b'9' | b'_' | b'.' | b'-')
-}
 
 fn is_any(run: &[u8]) -> bool
     ensures { result ≡ bytes_eq run.now (codes "any") }

@@ -45,7 +45,7 @@ unfolding opening_in
 start_found true rest = refl
 start_found false rest = refl
 
-range_found : (r : NamedRange) → IsNamedRange r → range_in (spell_range r) ≡ Some r
+pub range_found : (r : NamedRange) → IsNamedRange r → range_in (spell_range r) ≡ Some r
 unfolding range_in
 range_found r h =
     rw (

@@ -91,7 +91,7 @@ end_is text p e = by_cut (cut 93 text) refl e
         let h = closed_is false 93 text p (ap (closed_by false) c ∙ e) in
         ap (λ t. p.0 ++ ((cond t 41 93) ∷ [])) h.1 ∙ h.0
 
-ranged : (text : List ℕ) (range : NamedRange) → range_in text ≡ Some range → IsNamedRange range × (spell_range range ≡ text)
+pub ranged : (text : List ℕ) (range : NamedRange) → range_in text ≡ Some range → IsNamedRange range × (spell_range range ≡ text)
 unfolding range_in
 ranged text range e =
     let front = step_of (opening_in text) _ range e in

@@ -113,7 +113,7 @@ pub record IsOrderFault (bytes : List ℕ) (error : OrderError) : Type 0 where
   pub refused : IsRefusedOrder run.names run.edges error
   pub told : ¬ (error ≡ refusals.Memory)
 
--- all whole lines are right, and none is `end`
+-- no whole line is at fault, and the last one is still missing
 pub record IsUnended (bytes : List ℕ) : Type 0 where
   pub run : RunValue
   pub number : ℕ

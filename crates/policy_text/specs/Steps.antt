@@ -120,7 +120,7 @@ pub record GoesOn (run : RunValue) (text : List ℕ) (number : ℕ) (next : ℕ)
   pub more : ¬ (((split later).0 ≡ []) × ((split later).1 ≡ []))
   pub next_is : next ≡ at + 1
 
--- all whole lines are right, and none is `end`
+-- no whole line is at fault, and the last one is still missing
 pub record HasNoEnd (run : RunValue) (text : List ℕ) (number : ℕ) : Type 0 where
   pub last : RunValue
   pub rest : List ℕ

@@ -9,6 +9,7 @@ mod reading;
 mod run;
 mod run_error;
 
+pub use line::{NamedRange, read_range};
 pub use reading::read_run;
 pub use run::Run;
 pub use run_error::RunError;

@@ -1,15 +1,16 @@
 //! The lines between the first line of a run text and its last.
 
-ghost use Rattle.std.specs.Prelude.{ℕ, ◌≡◌, ◌<◌, ◌^◌, [], IfOk, true, map};
+ghost use Rattle.std.specs.Prelude.{ℕ, ◌≡◌, ◌<◌, ◌^◌, [], IfOk, IfSome, IfNone, true, map};
 ghost use Rattle.std.specs.Char.{is_ascii_digit};
 ghost use Rattle.std.specs.List.{list_all};
 ghost use Rattle.std.specs.Option.{option_map};
-ghost use Rattle.role_order.specs.Names.{is_name_byte as is_byte, is_name as name};
+ghost use Rattle.policy_text.specs.Shapes.{NamedRange as Named, IsNamedRange, spell_range};
 ghost use Rattle.policy_text.specs.Spelling.{name_in, text_in, is_numeral as numeral, number_in, opening_in, closing_in, closed_by, range_in, kind_in, role_in, edge_in, assign_in, revoke_in, user_in, names_behind, words, act_in, goal_in, keyword_in, shape_of};
 ghost use Rattle.policy_text.specs.Views.{range_view, shape_view};
 
 use crate::lines::{cut, is};
 use arbac_policy::ActKind;
+use role_order::is_name;
 use std::alloc::{AllocError, Global};
 
 /// A range whose ends are named.
@@ -60,32 +61,13 @@ pub enum Keyword {
     Goal,
 }
 
-fn is_name_byte(b: u8) -> bool
-    ensures { result ≡ is_byte b }
-{
-    matches!(b, b'A'..=b'Z' | b'a'..=b'z' | b'0'..=b'9' | b'_' | b'.' | b'-')
-}
-
-fn are_name_bytes(bytes: &[u8]) -> bool
-    ensures { result ≡ list_all is_byte bytes.now }
-{
-    bytes.iter().all(|b| is_name_byte(*b))
-}
-
-#[tactic(auto, unfolding(role_order::specs::Names::is_name))]
-fn is_name(bytes: &[u8]) -> bool
-    ensures { result ≡ name bytes.now }
-{
-    1 <= bytes.len() && bytes.len() <= 64 && are_name_bytes(bytes)
-}
-
 /// The bytes as a name, if they are one.
 #[tactic(auto, using(crate::proofs::WordLemmas::name_given, crate::proofs::WordLemmas::name_refused, crate::proofs::WordLemmas::name_unread))]
 fn name_of(bytes: &[u8]) -> Option<&str>
     ensures { option_map (λ text. text.now) result ≡ name_in bytes.now }
 {
     match str::from_utf8(bytes) {
-        Ok(text) => if is_name(bytes) { Some(text) } else { None },
+        Ok(text) => if is_name(text) { Some(text) } else { None },
         Err(_) => None,
     }
 }
@@ -181,6 +163,16 @@ fn range_of(text: &[u8]) -> Option<NamedRange>
         low_open,
         high_open,
     })
+}
+
+/// The range between two names that the text is. None exactly where it is no such range.
+pub fn read_range(text: &str) -> Option<NamedRange>
+    ensures found { IfSome result (λ range. IsNamedRange (range_view range)
+        × (spell_range (range_view range) ≡ text.now)) }
+    ensures none { IfNone result ((range : Named) → IsNamedRange range
+        → ¬ (spell_range range ≡ text.now)) }
+{
+    range_of(text.as_bytes())
 }
 
 #[tactic(auto, unfolding(crate::specs::Spelling::kind_in))]

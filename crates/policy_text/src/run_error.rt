@@ -6,9 +6,9 @@ use std::alloc::{AllocError, AllocFailed};
 
 /// The first fault of a text that is no run text. Lines count from 1.
 ///
-/// Within a line `BadLine` is told before `TooMany`, `TooMany` before `UnknownRole`, and
-/// `UnknownRole` before `Cond`. `Order` is told at the first line behind `run 1` whose first word
-/// is neither `role` nor `edge`, before that line is read, or where the lines end before one.
+/// A line is asked for its form and place, then for room, then for names, then for its condition.
+/// `Order` is told once no more roles and edges can come: ahead of the first line of another kind,
+/// or where the lines end.
 #[derive(Clone, Copy, Debug, PartialEq, Eq)]
 pub enum RunError {
     /// The line has no form of a run's line, or stands out of place.

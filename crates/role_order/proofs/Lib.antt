@@ -4,3 +4,4 @@ pub mod ReachLemmas
 pub mod ClosureLemmas
 pub mod PlacesLemmas
 pub mod NameLemmas
+pub mod OrderLemmas

@@ -1,5 +1,6 @@
 pub mod Lists
 pub mod Roles
+pub mod Orders
 pub mod Places
 pub mod Names
 pub mod Graph

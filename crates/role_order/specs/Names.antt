@@ -4,6 +4,7 @@ use Rattle.std.specs.List.{list_all}
 use Rattle.std.specs.Str.{bytes_eq}
 use Rattle.std.specs.String.{string_bytes}
 use Rattle.std.specs.declared.alloc.Global.{Global}
+use Rattle.role_order.specs.declared.TheConstants.{MOST_NAME_BYTES}
 
 -- the texts of strings
 abbrev pub texts : List (String Global) → List (List ℕ)
@@ -14,9 +15,9 @@ texts (s ∷ ss) = string_bytes s ∷ texts ss
 abbrev pub is_name_byte : ℕ → Bool
 is_name_byte b = (nat_le 65 b && nat_le b 90) || (nat_le 97 b && nat_le b 122) || (nat_le 48 b && nat_le b 57) || (b == 95) || (b == 46) || (b == 45)
 
--- a text of 1 to 64 such bytes
+-- a text of such bytes, at least one and at most the greatest number
 unfoldable pub is_name : List ℕ → Bool
-is_name text = nat_le 1 (length text) && nat_le (length text) 64 && list_all is_name_byte text
+is_name text = nat_le 1 (length text) && nat_le (length text) MOST_NAME_BYTES && list_all is_name_byte text
 
 -- a word of the conditions' own
 unfoldable pub is_reserved : List ℕ → Bool

@@ -9,9 +9,13 @@ mod role_set;
 #[cfg(test)]
 mod tests;
 
+pub use names::{is_name, is_name_byte};
 pub use order::{Order, OrderError};
 pub use range::Range;
 pub use role_set::RoleSet;
 
 /// The greatest number of roles of an order.
 pub const MOST_ROLES: usize = 250;
+
+/// The greatest number of bytes of a name.
+pub const MOST_NAME_BYTES: usize = 64;

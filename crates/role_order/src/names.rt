@@ -4,11 +4,14 @@ ghost use Rattle.std.specs.Prelude.{ℕ, ◌≡◌, ◌<◌, ◌^◌, length, po
 ghost use Rattle.std.specs.List.{list_all};
 ghost use Rattle.std.specs.Str.{bytes_eq};
 ghost use Rattle.std.specs.String.{string_bytes};
-ghost use Rattle.role_order.specs.Names.{texts, is_name, is_name_byte as is_byte, is_reserved as reserved, is_role_name as role_name, place_of, AreDifferent};
+ghost use Rattle.role_order.specs.Names.{texts, is_name as name, is_name_byte as is_byte, is_reserved as reserved, is_role_name as role_name, place_of, AreDifferent};
 ghost use Rattle.role_order.specs.Lists.{IsFirst};
 ghost use Rattle.role_order.specs.Refusals.{AreCounted, AreRoleNames, IsRepeated};
 
-fn is_name_byte(b: u8) -> bool
+use crate::MOST_NAME_BYTES;
+
+/// Whether the byte is one of `A-Z a-z 0-9 _ . -`.
+pub fn is_name_byte(b: u8) -> bool
     ensures { result ≡ is_byte b }
 {
     matches!(b, b'A'..=b'Z' | b'a'..=b'z' | b'0'..=b'9' | b'_' | b'.' | b'-')
@@ -20,6 +23,15 @@ fn are_name_bytes(bytes: &[u8]) -> bool
     bytes.iter().all(|b| is_name_byte(*b))
 }
 
+/// Whether the text is 1 to `MOST_NAME_BYTES` name bytes.
+#[tactic(auto, unfolding(crate::specs::Names::is_name))]
+pub fn is_name(text: &str) -> bool
+    ensures { result ≡ name text.now }
+{
+    let bytes = text.as_bytes();
+    1 <= bytes.len() && bytes.len() <= MOST_NAME_BYTES && are_name_bytes(bytes)
+}
+
 #[tactic(auto, unfolding(crate::specs::Names::is_reserved))]
 fn is_reserved(text: &str) -> bool
     ensures { result ≡ reserved text.now }
@@ -27,13 +39,12 @@ fn is_reserved(text: &str) -> bool
     text == "any" || text == "not" || text == "and" || text == "or"
 }
 
-/// Whether the text is 1 to 64 name bytes and none of the conditions' own words.
-#[tactic(auto, unfolding(crate::specs::Names::is_name, crate::specs::Names::is_role_name))]
+/// Whether the text is a name and none of the conditions' own words.
+#[tactic(auto, unfolding(crate::specs::Names::is_role_name))]
 fn is_role_name(text: &str) -> bool
     ensures { result ≡ role_name text.now }
 {
-    let bytes = text.as_bytes();
-    1 <= bytes.len() && bytes.len() <= 64 && are_name_bytes(bytes) && !is_reserved(text)
+    is_name(text) && !is_reserved(text)
 }
 
 fn position_in(names: &[String], bytes: &[u8]) -> Option<usize>

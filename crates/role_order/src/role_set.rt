@@ -1,6 +1,8 @@
 //! Sets of roles.
 
-ghost use Rattle.std.specs.Prelude.{◌≡◌, ◌<◌, [], List};
+ghost use Rattle.std.specs.Prelude.{◌≡◌, ◌<◌, ◌≤◌, [], List, length, drop};
+ghost use Rattle.std.specs.List.{list_any};
+ghost use Rattle.role_order.specs.Orders.{set_before, IsTotalOrder};
 ghost use Rattle.role_order.specs.Roles.{has_role, with_role, without_role, less_roles, is_within, have_common, common_roles, join_roles, Rises, IsRoleSet};
 
 use crate::MOST_ROLES;
@@ -28,6 +30,21 @@ impl Model for RoleSet {
     ghost use Rattle.role_order.specs.Places.{held_back};
 
     ghost inverse_ok = { λ a h. ap (λ held. record { held = held }) (held_back a.held h) };
+}
+
+// Whether one of the places is held.
+fn some_held(held: &[bool]) -> bool
+    ensures { result ≡ list_any (λ b. b) held.now }
+{
+    held.iter().any(|is_held| *is_held)
+}
+
+// Whether this place or a later one is held.
+fn held_from(held: &[bool], from: usize) -> bool
+    requires { from ≤ length held.now }
+    ensures { result ≡ list_any (λ b. b) (drop from held.now) }
+{
+    some_held(&held[from..])
 }
 
 impl RoleSet {
@@ -88,6 +105,23 @@ impl RoleSet {
         for at in 0..MOST_ROLES {
             if self.held[at] && other.held[at] {
                 return true;
+            }
+        }
+        false
+    }
+
+    /// Whether the set comes before the other as rising lists of numbers do, a front first. Of two
+    /// that differ, the one with the least role that only one has is before where the other goes on.
+    pub fn before(&self, other: &RoleSet) -> bool
+        ensures value { result ≡ set_before self.now other.now }
+        ensures order { IsTotalOrder set_before }
+    {
+        for at in 0..MOST_ROLES {
+            if self.held[at] && !other.held[at] {
+                return held_from(&other.held, at);
+            }
+            if other.held[at] && !self.held[at] {
+                return !held_from(&self.held, at);
             }
         }
         false

@@ -1,5 +1,5 @@
 //! Role orders and role sets, call by call.
-use crate::{Order, OrderError, Range, RoleSet};
+use crate::{Order, OrderError, Range, RoleSet, is_name, is_name_byte};
 use std::alloc::{AllocError, Global};
 use std::process::Abort;
 use std::test::Fail;
@@ -122,6 +122,17 @@ const RANGES: [(&str, &str, bool, bool, &[&str]); 6] = [
     ),
     ("E1", "E1", false, true, &[]),
     ("E2", "PL1", false, false, &[]),
+];
+
+/// Texts, and whether they are names.
+const TEXTS: [(&str, bool); 7] = [
+    ("", false),
+    ("any", true),
+    ("-.9Z", true),
+    ("a b", false),
+    ("é", false),
+    (LETTERS_64, true),
+    (LETTERS_65, false),
 ];
 
 fn names_of(alloc: Global, texts: &[&str]) -> Result<Vec<String>, AllocError> {
@@ -249,4 +260,32 @@ fn a_set_has_the_roles_that_it_was_given(rt: HostRuntime) {
     }
     assert!(rt; first.within(&ends) && !ends.within(&first));
     assert!(rt; first.meets(&ends) && !first.meets(&ends.less(&first)));
+}
+
+#[test]
+fn sets_are_ordered_as_rising_lists(rt: HostRuntime) {
+    let none = RoleSet::empty();
+    let first = none.with(0);
+    let ordered = [
+        none,
+        first,
+        first.with(1),
+        first.with(1).with(249),
+        first.with(249),
+        none.with(1),
+        none.with(249),
+    ];
+    for (at, set) in ordered.iter().enumerate() {
+        for (place, other) in ordered.iter().enumerate() {
+            assert_eq!(rt; set.before(other), at < place, "{at} and {place}");
+        }
+    }
+}
+
+#[test]
+fn a_name_has_1_to_64_name_bytes(rt: HostRuntime) {
+    for (text, want) in TEXTS {
+        assert_eq!(rt; is_name(text), want, "{text}");
+    }
+    assert!(rt; is_name_byte(b'_') && !is_name_byte(b'@'));
 }
