@@ -22,7 +22,8 @@ use Rattle.arbac_laws.specs.PreImages.{AssignObligation, IsPick, Pick, WeakOblig
 use Rattle.arbac_laws.proofs.ConjunctLemmas.{AreSeniors}
 use Rattle.arbac_laws.proofs.ListLemmas.{each_append, each_is, some_right, some_weaker}
 use Rattle.arbac_laws.proofs.ObligationLemmas.{IsAssigning, IsRevoking, in_parts}
-use Rattle.arbac_laws.proofs.OrderLemmas.{count, not_true}
+use Rattle.arbac_laws.proofs.OrderLemmas.{count}
+use Rattle.role_order.proofs.OrderLemmas.{not_true}
 use Rattle.arbac_laws.proofs.RoleLemmas.{cases_in, less_in}
 use Rattle.arbac_laws.proofs.TargetLemmas.{some_cond}
 

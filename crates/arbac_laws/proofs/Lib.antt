@@ -15,10 +15,16 @@ pub mod CountLemmas
 pub mod SameLemmas
 pub mod SortLemmas
 pub mod NormalLemmas
+pub mod FixedLemmas
 pub mod PlaceLemmas
+pub mod FormPlaceLemmas
 pub mod DeficientLemmas
 pub mod BarrierLemmas
 pub mod RowLemmas
 pub mod SetsLemmas
 pub mod RecordedLemmas
 pub mod PairLemmas
+pub mod ListingRowLemmas
+pub mod FormRowLemmas
+pub mod BarrierRowLemmas
+pub mod RecordedRowLemmas

@@ -73,6 +73,18 @@ cases_eq (suc i) (suc j) = by_rest (cases_eq i j)
     by_rest (inl e) = inl (ap suc e)
     by_rest (inr n) = inr (λ e. n (omega arith))
 
+-- one place is before the other, or they are one
+pub compare : (i j : ℕ) → (i < j) ⊎ ((i ≡ j) ⊎ (j < i))
+compare zero zero = inr (inl refl)
+compare zero (suc j) = inl (omega arith)
+compare (suc i) zero = inr (inr (omega arith))
+compare (suc i) (suc j) = lifted (compare i j)
+  where
+    lifted : (i < j) ⊎ ((i ≡ j) ⊎ (j < i)) → (suc i < suc j) ⊎ ((suc i ≡ suc j) ⊎ (suc j < suc i))
+    lifted (inl l) = inl (omega arith)
+    lifted (inr (inl e)) = inr (inl (ap suc e))
+    lifted (inr (inr l)) = inr (inr (omega arith))
+
 -- a place below the number goes there, or none does
 pub find_place : (to : ℕ → ℕ) (p n : ℕ) → ((t : ℕ) × (t < n) × (to t ≡ p)) ⊎ ((i : ℕ) → i < n → to i ≡ p → ⊥)
 find_place to p zero = inr (λ i l e. omega arith)

@@ -6,14 +6,16 @@ use Rattle.std.specs.List.{list_any}
 use Rattle.role_order.proofs.SetLemmas.{and_both, both_true}
 use Rattle.role_order.specs.Lists.{Each, Some_of}
 use Rattle.role_order.specs.Roles.{AreApart, IsIn, IsOut, IsWithin, has_role, is_within, less_roles}
-use Rattle.arbac_laws.specs.Needs.{Covers, CoversNeed, IsCovered, IsPossible, Need}
+use Rattle.arbac_laws.specs.Needs.{Covers, CoversNeed, IsCovered, IsPossible, IsPossibleNeed, Need}
 use Rattle.arbac_laws.specs.NormalForms.{AreSets, IsNormal, IsNormalNeed, bare_hits, insert_by, is_impossible, is_less, least_hits, normal_form, normal_need, sort_by}
-use Rattle.arbac_laws.specs.Orders.{need_before, set_before}
+use Rattle.role_order.specs.Orders.{set_before}
+use Rattle.arbac_laws.specs.Orders.{need_before}
 use Rattle.arbac_laws.specs.PreImages.{is_empty}
 use Rattle.arbac_laws.proofs.CoverLemmas.{covers_itself, covers_need}
 use Rattle.arbac_laws.proofs.ListLemmas.{each_by, each_some, one_some, some_one, some_weaker}
 use Rattle.arbac_laws.proofs.MapLemmas.{compose, embeds_front, embeds_itself, embeds_swap}
-use Rattle.arbac_laws.proofs.OrderLemmas.{count, need_order, not_false, not_true, set_order}
+use Rattle.arbac_laws.proofs.OrderLemmas.{count, need_order}
+use Rattle.role_order.proofs.OrderLemmas.{not_false, not_true, set_order}
 use Rattle.arbac_laws.proofs.RoleLemmas.{in_less, less_in, less_out}
 use Rattle.arbac_laws.proofs.SameLemmas.{any_of, is_within_of, of_any, same_roles, within_is}
 use Rattle.arbac_laws.proofs.SortLemmas.{filter_in, in_filter, in_sort, sort_by_in, sort_in, sort_rises, sort_sorted}
@@ -25,10 +27,6 @@ use Rattle.arbac_laws.specs.Places.{ArePlaces}
 use Rattle.arbac_laws.proofs.MapLemmas.{get_there, get_below}
 use Rattle.arbac_laws.proofs.CoverLemmas.{covered_met}
 use Rattle.std.proofs.Common.{get_or, length, ◌<◌}
-
--- items of lists
-
--- a stable sort
 
 -- maps that come of a sort and of a change of each item
 
@@ -186,46 +184,6 @@ normal_both needs form e =
       subst (λ f. Covers f needs) s (covers_join (sort_by need_before (map normal_need needs)) (map normal_need needs) needs (sort_out (map normal_need needs)) (map_out needs)),
     )
 
--- the form is normal
-
-pub normal_is_normal : (need : Need) → AreSets need → IsNormalNeed (normal_need need)
-normal_is_normal need sets = record {
-  lacks = sets.lacks;
-  rising = each_by Rises (normal_need need).hits (λ h i. rising h (normal_hit need h i).0);
-  bare = each_by (λ hit. AreApart need.lacks hit) (normal_need need).hits (λ h i r lacked held.
-      let k = some_one (λ (k : List ℕ). less_roles k need.lacks ≡ h) need.hits (in_bare need h (normal_hit need h i).0) in
-      let out = less_out k.0 need.lacks r (subst (λ v. IsIn v r) (sym k.2) held) in cc);
-  least = each_by (λ hit. Each (λ other. IsWithin other hit → other ≡ hit) (normal_need need).hits) (normal_need need).hits (λ h i.
-      each_by (λ other. IsWithin other h → other ≡ h) (normal_need need).hits (λ k j w.
-      let a = normal_hit need h i in let b = normal_hit need k j in
-      same_roles k h (rising k b.0) (rising h a.0) w (back h k a.1 b.0 w)));
-  sorted = sort_rises set_before set_order (least_hits (bare_hits need));
-}
-  where
-    rising : (h : List ℕ) → Some_of (λ (k : List ℕ). k ≡ h) (bare_hits need) → Rises h
-    rising h i =
-        let k = some_one (λ (k : List ℕ). less_roles k need.lacks ≡ h) need.hits (in_bare need h i) in
-        subst Rises k.2 (rises-filter (λ x. not (has_role need.lacks x)) k.0 (each_some Rises need.hits k.0 sets.hits k.1))
-
-    back : (h k : List ℕ) → list_any (λ other. is_less other h) (bare_hits need) ≡ false → Some_of (λ (v : List ℕ). v ≡ k) (bare_hits need) → IsWithin k h → IsWithin h k
-    back h k none i w = by_test (is_within h k) refl
-      where
-        by_test : (t : Bool) → is_within h k ≡ t → IsWithin h k
-        by_test true e = within_is h k e
-        by_test false e =
-            let less : is_less k h ≡ true = less_of k h w (λ v. let yes' = is_within_of h k v in cc) in
-            let any' : list_any (λ other. is_less other h) (bare_hits need) ≡ true =
-            of_any (λ other. is_less other h ≡ true) (λ other. is_less other h) (λ other f. f) (bare_hits need) (one_some (λ other. is_less other h ≡ true) (bare_hits need) k i less) in cc
-
-pub normal_forms : (needs : List Need) → Each AreSets needs → Each IsNormalNeed (map normal_need needs)
-normal_forms [] h = tt
-normal_forms (x ∷ xs) h = (normal_is_normal x h.0, normal_forms xs h.1)
-
-pub form_is_normal : (needs form : List Need) → Each AreSets needs → normal_form needs ≡ Some form → IsNormal form
-form_is_normal needs form sets e =
-    let s = (some_of_cond (is_impossible needs) (sort_by need_before (map normal_need needs)) form e).1 in
-    subst IsNormal s (record { each = sort_by_in need_before IsNormalNeed (map normal_need needs) (normal_forms needs sets); sorted = sort_sorted need_before need_order (map normal_need needs) })
-
 -- impossible
 
 pub bare_filled : (need : Need) → Each (λ hit. (role : ℕ) × IsIn hit role × IsOut need.lacks role) need.hits → list_any is_empty (bare_hits need) ≡ false
@@ -276,6 +234,53 @@ none_impossible needs = (
     by_test : (t : Bool) → is_impossible needs ≡ t → ¬ IsPossible needs → normal_form needs ≡ None
     by_test true e n = rw e refl
     by_test false e n = absurd (n (not_possible needs e))
+
+-- the form is normal
+
+pub normal_is_normal : (need : Need) → AreSets need → IsPossibleNeed need → IsNormalNeed (normal_need need)
+normal_is_normal need sets possible = record {
+  lacks = sets.lacks;
+  filled = each_by (λ hit. (role : ℕ) × IsIn hit role) (normal_need need).hits (λ h i.
+      let k = some_one (λ (k : List ℕ). less_roles k need.lacks ≡ h) need.hits (in_bare need h (normal_hit need h i).0) in
+      let free = each_some (λ hit. (role : ℕ) × IsIn hit role × IsOut need.lacks role) need.hits k.0 possible k.1 in
+      (free.0, subst (λ v. IsIn v free.0) k.2 (in_less k.0 need.lacks free.0 free.1 free.2)));
+  rising = each_by Rises (normal_need need).hits (λ h i. rising h (normal_hit need h i).0);
+  bare = each_by (λ hit. AreApart need.lacks hit) (normal_need need).hits (λ h i r lacked held.
+      let k = some_one (λ (k : List ℕ). less_roles k need.lacks ≡ h) need.hits (in_bare need h (normal_hit need h i).0) in
+      let out = less_out k.0 need.lacks r (subst (λ v. IsIn v r) (sym k.2) held) in cc);
+  least = each_by (λ hit. Each (λ other. IsWithin other hit → other ≡ hit) (normal_need need).hits) (normal_need need).hits (λ h i.
+      each_by (λ other. IsWithin other h → other ≡ h) (normal_need need).hits (λ k j w.
+      let a = normal_hit need h i in let b = normal_hit need k j in
+      same_roles k h (rising k b.0) (rising h a.0) w (back h k a.1 b.0 w)));
+  sorted = sort_rises set_before set_order (least_hits (bare_hits need));
+}
+  where
+    rising : (h : List ℕ) → Some_of (λ (k : List ℕ). k ≡ h) (bare_hits need) → Rises h
+    rising h i =
+        let k = some_one (λ (k : List ℕ). less_roles k need.lacks ≡ h) need.hits (in_bare need h i) in
+        subst Rises k.2 (rises-filter (λ x. not (has_role need.lacks x)) k.0 (each_some Rises need.hits k.0 sets.hits k.1))
+
+    back : (h k : List ℕ) → list_any (λ other. is_less other h) (bare_hits need) ≡ false → Some_of (λ (v : List ℕ). v ≡ k) (bare_hits need) → IsWithin k h → IsWithin h k
+    back h k none i w = by_test (is_within h k) refl
+      where
+        by_test : (t : Bool) → is_within h k ≡ t → IsWithin h k
+        by_test true e = within_is h k e
+        by_test false e =
+            let less : is_less k h ≡ true = less_of k h w (λ v. let yes' = is_within_of h k v in cc) in
+            let any' : list_any (λ other. is_less other h) (bare_hits need) ≡ true =
+            of_any (λ other. is_less other h ≡ true) (λ other. is_less other h) (λ other f. f) (bare_hits need) (one_some (λ other. is_less other h ≡ true) (bare_hits need) k i less) in cc
+
+pub normal_forms : (needs : List Need) → Each AreSets needs → IsPossible needs → Each IsNormalNeed (map normal_need needs)
+normal_forms [] h p = tt
+normal_forms (x ∷ xs) h p = (normal_is_normal x h.0 p.0, normal_forms xs h.1 p.1)
+
+pub form_is_normal : (needs form : List Need) → Each AreSets needs → normal_form needs ≡ Some form → IsNormal form
+form_is_normal needs form sets e =
+    let s = some_of_cond (is_impossible needs) (sort_by need_before (map normal_need needs)) form e in
+    subst IsNormal s.1 (record {
+      each = sort_by_in need_before IsNormalNeed (map normal_need needs) (normal_forms needs sets (not_possible needs s.0));
+      sorted = sort_sorted need_before need_order (map normal_need needs);
+    })
 
 -- the normal form is covered by one of the list exactly where the needs are
 pub covered_alike : (list : List (List Need)) (needs form : List Need) → normal_form needs ≡ Some form → IsCovered list needs ↔ IsCovered list form

@@ -1,26 +1,32 @@
 -- Small requirements: exclusive pairs, and what covers what.
-use Rattle.std.proofs.Common.{ℕ, ◌≡◌, [], ◌∷◌, Some, None, arith, zero, suc, sym, eqb, subst, refl, inl, inr}
+use Rattle.std.proofs.Common.{ℕ, ◌≡◌, List, [], ◌∷◌, Some, None, arith, zero, suc, sym, eqb, subst, refl, inl, inr}
 use Rattle.std.specs.Prelude.{slice_get}
 use Rattle.role_order.proofs.SetLemmas.{or_right}
-use Rattle.role_order.specs.Lists.{Some_of}
+use Rattle.role_order.specs.Lists.{Each, IsOneOf, Some_of}
 use Rattle.role_order.specs.Reach.{seniors_of}
+use Rattle.arbac_policy.specs.Truth.{both, has}
 use Rattle.role_order.specs.Roles.{IsWithin, has_role, less_roles}
-use Rattle.arbac_laws.specs.Needs.{Covers, CoversNeed, Meets, MeetsNeed, Need}
-use Rattle.arbac_laws.specs.NormalForms.{normal_form}
-use Rattle.arbac_laws.specs.Obligations.{and_then, pre_image, assigns}
-use Rattle.arbac_laws.specs.PreImages.{fresh}
-use Rattle.arbac_laws.specs.Rows.{mix_apart, adm, c, d, hits, hits_either, without, anyone}
+use Rattle.arbac_laws.specs.Needs.{Covers, CoversNeed, IsCovered, IsPossible, Meets, MeetsNeed, Need}
+use Rattle.arbac_laws.specs.Closed.{IsClosedList, IsUnmet}
+use Rattle.arbac_laws.specs.Goals.{goal_requirements}
+use Rattle.arbac_laws.specs.NormalForms.{pre_form}
+use Rattle.arbac_laws.specs.Obligations.{Obligation, obligations, pre_image, assigns}
+use Rattle.arbac_laws.specs.PreImages.{fresh, itself}
+use Rattle.arbac_laws.specs.Rows.{mix_apart, one_admin, pair_policy, hits_both, adm, c, d, hits, hits_either, without, anyone}
 use Rattle.arbac_laws.proofs.CountLemmas.{embeds_long}
-use Rattle.arbac_laws.proofs.MapLemmas.{embeds_front, embeds_none, same_some}
-use Rattle.arbac_laws.proofs.RowLemmas.{lacks_adm}
+use Rattle.arbac_laws.proofs.MapLemmas.{embeds_front, embeds_itself, embeds_none, same_some}
+use Rattle.arbac_laws.proofs.ListLemmas.{each_is}
+use Rattle.arbac_laws.proofs.NormalLemmas.{none_impossible}
+use Rattle.arbac_laws.proofs.CoverLemmas.{covers_itself}
+use Rattle.arbac_laws.proofs.RowLemmas.{anyone_covers, form_of, lacks_adm, nobody_has_c, term_any}
 
 -- exclusive pairs
 
-pub d_barred : and_then (pre_image (mix_apart ((c, d) ∷ [])) (hits c ∷ []) (assigns 0 0 c 0 fresh)) normal_form ≡ Some (record { hits = []; lacks = adm ∷ d ∷ [] } ∷ hits adm ∷ [])
+pub d_barred : pre_form (mix_apart ((c, d) ∷ [])) (hits c ∷ []) (assigns 0 0 c 0 fresh) ≡ Some (record { hits = []; lacks = adm ∷ d ∷ [] } ∷ hits adm ∷ [])
 unfolding seniors_of
 d_barred = rw lacks_adm refl
 
-pub d_barred_second : and_then (pre_image (mix_apart ((d, c) ∷ [])) (hits c ∷ []) (assigns 0 0 c 0 fresh)) normal_form ≡ Some (record { hits = []; lacks = adm ∷ d ∷ [] } ∷ hits adm ∷ [])
+pub d_barred_second : pre_form (mix_apart ((d, c) ∷ [])) (hits c ∷ []) (assigns 0 0 c 0 fresh) ≡ Some (record { hits = []; lacks = adm ∷ d ∷ [] } ∷ hits adm ∷ [])
 unfolding seniors_of
 d_barred_second = rw lacks_adm refl
 
@@ -28,9 +34,39 @@ pub c_barred : pre_image (mix_apart ((c, c) ∷ [])) (hits c ∷ []) (assigns 0 
 unfolding seniors_of
 c_barred = rw lacks_adm refl
 
-pub none_barred : and_then (pre_image (mix_apart ((adm, d) ∷ [])) (hits c ∷ []) (assigns 0 0 c 0 fresh)) normal_form ≡ Some (without adm ∷ hits adm ∷ [])
+pub none_barred : pre_form (mix_apart ((adm, d) ∷ [])) (hits c ∷ []) (assigns 0 0 c 0 fresh) ≡ Some (without adm ∷ hits adm ∷ [])
 unfolding seniors_of
 none_barred = rw lacks_adm refl
+
+pub four_obligations : obligations pair_policy (hits_both c d ∷ []) ≡ assigns 0 0 c 0 itself ∷ assigns 0 0 c 0 fresh ∷ assigns 1 0 d 0 itself ∷ assigns 1 0 d 0 fresh ∷ []
+unfolding seniors_of
+four_obligations = rw term_any refl
+
+pub both_wanted : goal_requirements pair_policy.order (both (has c) (has d) ∷ []) ≡ (hits_both c d ∷ []) ∷ []
+unfolding seniors_of
+both_wanted = refl
+
+pub nothing_will_do : Each (λ ob. pre_form pair_policy (hits_both c d ∷ []) ob ≡ None) (obligations pair_policy (hits_both c d ∷ []))
+unfolding seniors_of
+nothing_will_do = subst (Each (λ ob. pre_form pair_policy (hits_both c d ∷ []) ob ≡ None)) (sym four_obligations) (rw term_any refl, (rw term_any refl, (rw term_any refl, (rw term_any refl, tt))))
+
+pub both_closed : IsClosedList pair_policy one_admin (both (has c) (has d) ∷ []) ((hits_both c d ∷ []) ∷ [])
+both_closed = record {
+  goals = λ needs is possible. each_is (IsCovered list) (goal_requirements pair_policy.order (both (has c) (has d) ∷ [])) needs is.0
+      (subst (Each (IsCovered list)) (sym both_wanted) (inl (embeds_itself CoversNeed covers_itself (hits_both c d ∷ [])), tt)) is.1;
+  pre_images = λ needs is ob at before e possible. absurd (each_is Impossible list needs is.0 (none, tt) is.1 ob at before e possible);
+  unmet = λ needs is. each_is (IsUnmet one_admin) list needs is.0 (nobody_has_c one_admin (refl, tt) ((d ∷ []) ∷ []), tt) is.1;
+}
+  where
+    list : List (List Need)
+    list = (hits_both c d ∷ []) ∷ []
+
+    Impossible : List Need → Type 0
+    Impossible needs = (ob : Obligation) → IsOneOf (obligations pair_policy needs) ob → (before : List Need) → pre_image pair_policy needs ob ≡ Some before → ¬ IsPossible before
+
+    none : Impossible (hits_both c d ∷ [])
+    none ob at before e = (none_impossible before).0 (form_of pair_policy (hits_both c d ∷ []) ob before None
+        (each_is (λ ob. pre_form pair_policy (hits_both c d ∷ []) ob ≡ None) (obligations pair_policy (hits_both c d ∷ [])) ob at.0 nothing_will_do at.1) e)
 
 -- one user, and another that it covers
 
@@ -46,6 +82,15 @@ covers_one a b f = let one = f.each 0 a refl in at_place (f.to 0) one.0 one.1 on
 
 pub one_is_not_two : Meets ([] ∷ []) (anyone ∷ anyone ∷ []) → ⊥
 one_is_not_two f = let long = embeds_long MeetsNeed (anyone ∷ anyone ∷ []) ([] ∷ []) f in omega (arith, long)
+
+pub two_cover_no_one : Covers (anyone ∷ anyone ∷ []) (anyone ∷ []) → ⊥
+two_cover_no_one f = let long = embeds_long CoversNeed (anyone ∷ anyone ∷ []) (anyone ∷ []) f in omega (arith, long)
+
+pub third_covers : Covers (anyone ∷ hits adm ∷ []) (hits adm ∷ hits adm ∷ [])
+third_covers = embeds_front CoversNeed anyone (hits adm) (hits adm ∷ []) (hits adm ∷ []) (anyone_covers (hits adm)) (one_covers (hits adm) (hits adm) (covers_itself (hits adm)))
+
+pub third_not_covering : Covers (anyone ∷ hits adm ∷ []) (hits c ∷ []) → ⊥
+third_not_covering f = let long = embeds_long CoversNeed (anyone ∷ hits adm ∷ []) (hits c ∷ []) f in omega (arith, long)
 
 pub lacks_not_covering : Covers (without c ∷ []) (anyone ∷ []) → ⊥
 lacks_not_covering f = let none = (covers_one (without c) anyone f).lacks c refl in cc

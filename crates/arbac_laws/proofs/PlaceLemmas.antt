@@ -25,15 +25,15 @@ from_places R xs ys places p = record {
   each = p.each;
 }
 
-pub to_places : {A B : Type 0} (R : A → B → Type 0) (xs : List A) (ys : List B) → Embeds R xs ys → (places : List ℕ) × ArePlaces R xs ys places
-to_places {A} {B} R xs ys f = (
-  told f.to (length xs),
-  record {
-    long = length-told f.to (length xs);
-    apart = λ i j l m e. let li = within i l in let lj = within j m in f.apart i j li lj (sym (get-told f.to (length xs) i li) ∙ e ∙ get-told f.to (length xs) j lj);
-    each = λ i x is. let one = f.each i x is in (one.0, ap (slice_get ys) (get-told f.to (length xs) i (get_below xs i x is)) ∙ one.1, one.2);
-  },
-)
+pub told_places : {A B : Type 0} (R : A → B → Type 0) (xs : List A) (ys : List B) → (f : Embeds R xs ys) → ArePlaces R xs ys (told f.to (length xs))
+told_places {A} {B} R xs ys f = record {
+  long = length-told f.to (length xs);
+  apart = λ i j l m e. let li = within i l in let lj = within j m in f.apart i j li lj (sym (get-told f.to (length xs) i li) ∙ e ∙ get-told f.to (length xs) j lj);
+  each = λ i x is. let one = f.each i x is in (one.0, ap (slice_get ys) (get-told f.to (length xs) i (get_below xs i x is)) ∙ one.1, one.2);
+}
   where
     within : (i : ℕ) → i < length (told f.to (length xs)) → i < length xs
     within i l = subst (λ n. i < n) (length-told f.to (length xs)) l
+
+pub to_places : {A B : Type 0} (R : A → B → Type 0) (xs : List A) (ys : List B) → Embeds R xs ys → (places : List ℕ) × ArePlaces R xs ys places
+to_places R xs ys f = (told f.to (length xs), told_places R xs ys f)

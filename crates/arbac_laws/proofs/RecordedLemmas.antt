@@ -1,5 +1,5 @@
 -- Entries of a recorded list are in normal form and different.
-use Rattle.std.proofs.Common.{ℕ, ◌≡◌, ◌<◌, List, [], ◌∷◌, Some, arith, zero, suc, sym, ◌∙◌, ap, subst, refl, inl, inr, take}
+use Rattle.std.proofs.Common.{ℕ, ◌≡◌, ◌<◌, List, [], ◌∷◌, Some, arith, zero, suc, sym, ◌∙◌, subst, inl, inr, take}
 use Rattle.std.specs.Prelude.{slice_get, ◌⊎◌}
 use Rattle.role_order.proofs.ClosureLemmas.{take_taken}
 use Rattle.role_order.proofs.ListLemmas.{get_take, get_taken}
@@ -14,7 +14,7 @@ use Rattle.arbac_laws.specs.Recorded.{Entry, IsEntry, IsRecordedList, IsOrigin, 
 use Rattle.arbac_laws.proofs.ConjunctLemmas.{AreSeniors}
 use Rattle.arbac_laws.proofs.CoverLemmas.{covers_itself}
 use Rattle.arbac_laws.proofs.ListLemmas.{each_is, some_at, some_map}
-use Rattle.arbac_laws.proofs.MapLemmas.{embeds_itself}
+use Rattle.arbac_laws.proofs.MapLemmas.{compare, embeds_itself}
 use Rattle.arbac_laws.proofs.NormalLemmas.{form_is_normal}
 use Rattle.arbac_laws.proofs.SetsLemmas.{goal_sets, sets_kept}
 
@@ -48,17 +48,6 @@ front_recorded rules profiles goal list n recorded place entry at =
     let there = get_taken list n place entry at in
     let less = there.0 in
     subst (λ earlier. IsEntry rules profiles goal earlier entry) (sym (take_taken list place n (omega (arith, less)))) (recorded place entry there.1)
-
-pub compare : (i j : ℕ) → (i < j) ⊎ ((i ≡ j) ⊎ (j < i))
-compare zero zero = inr (inl refl)
-compare zero (suc j) = inl (omega arith)
-compare (suc i) zero = inr (inr (omega arith))
-compare (suc i) (suc j) = lifted (compare i j)
-  where
-    lifted : (i < j) ⊎ ((i ≡ j) ⊎ (j < i)) → (suc i < suc j) ⊎ ((suc i ≡ suc j) ⊎ (suc j < suc i))
-    lifted (inl l) = inl (omega arith)
-    lifted (inr (inl e)) = inr (inl (ap suc e))
-    lifted (inr (inr l)) = inr (inr (omega arith))
 
 -- an earlier entry doesn't cover a later one
 pub not_covering : (rules : Rules) (profiles : List Profile) (goal : List Term) (list : List Entry) → IsRecordedList rules profiles goal list

@@ -5,16 +5,16 @@ use Rattle.std.proofs.lemmas.Bool.{eq-eqb}
 use Rattle.role_order.specs.Lists.{Each}
 use Rattle.role_order.specs.Reach.{seniors_of}
 use Rattle.role_order.specs.Roles.{IsIn}
+use Rattle.arbac_policy.specs.Rules.{Rules}
 use Rattle.arbac_policy.specs.Goals.{AreUsers, IsDrawn, times}
-use Rattle.arbac_policy.specs.Truth.{Term, term_level, term_of, has, lacks}
-use Rattle.arbac_policy.specs.declared.cond.Cond.{fold-Cond, fold-roll-Cond}
-use Rattle.arbac_policy.specs.declared.cond.Cond.TheVariants.{Lacks, rolls-Lacks}
+use Rattle.arbac_policy.specs.Truth.{Term, term_level, term_of, any, has, lacks, either}
+use Rattle.arbac_policy.specs.declared.cond.Cond.{Cond, fold-roll-Cond}
+use Rattle.arbac_policy.specs.declared.cond.Cond.TheVariants.{Any, Has, Lacks, Or, rolls-Any, rolls-Has, rolls-Lacks, rolls-Or}
 use Rattle.arbac_policy.specs.declared.profile.Profile.{Profile}
-use Rattle.arbac_policy.specs.declared.cond.Cond.TheOpen as open'
 use Rattle.arbac_laws.specs.Closed.{IsClosedList, IsUnmet}
 use Rattle.arbac_laws.specs.Goals.{goal_requirements}
 use Rattle.arbac_laws.specs.Needs.{CoversNeed, IsCovered, IsPossible, Meets, MeetsNeed, Need}
-use Rattle.arbac_laws.specs.NormalForms.{normal_form}
+use Rattle.arbac_laws.specs.NormalForms.{normal_form, pre_form}
 use Rattle.arbac_laws.specs.Obligations.{Obligation, and_then, obligations, pre_image, assigns, revokes}
 use Rattle.arbac_laws.specs.PreImages.{itself, other, fresh}
 use Rattle.arbac_laws.specs.Rows.{mix, adm, c, hits, without, anyone, one_admin, mix_needs}
@@ -29,9 +29,22 @@ use Rattle.std.proofs.lemmas.Bool.{eqb-true}
 use Rattle.role_order.proofs.SetLemmas.{or_cases}
 use Rattle.std.specs.Prelude.{◌⊎◌}
 
--- the condition that is no member of adm
+-- the terms of conditions
+
+pub term_any : term_of Any ≡ any
+term_any = ap term_of (sym rolls-Any) ∙ fold-roll-Cond Term term_level _
+
+pub term_has : (role : ℕ) → term_of (Has role) ≡ has role
+term_has role = ap term_of (sym (rolls-Has role)) ∙ fold-roll-Cond Term term_level _
+
+pub term_lacks : (role : ℕ) → term_of (Lacks role) ≡ lacks role
+term_lacks role = ap term_of (sym (rolls-Lacks role)) ∙ fold-roll-Cond Term term_level _
+
 pub lacks_adm : term_of (Lacks adm) ≡ lacks adm
-lacks_adm = ap (fold-Cond Term term_level) (sym (rolls-Lacks adm)) ∙ fold-roll-Cond Term term_level (open'.Lacks adm)
+lacks_adm = term_lacks adm
+
+pub term_either : (left right : Cond) → term_of (Or left right) ≡ either (term_of left) (term_of right)
+term_either left right = ap term_of (sym (rolls-Or left right)) ∙ fold-roll-Cond Term term_level _
 
 -- each step of the search, computed
 
@@ -43,27 +56,31 @@ pub first_obligations : obligations mix (hits c ∷ []) ≡ assigns 0 0 c 0 itse
 unfolding seniors_of
 first_obligations = rw lacks_adm refl
 
-pub first_itself : and_then (pre_image mix (hits c ∷ []) (assigns 0 0 c 0 itself)) normal_form ≡ None
+pub first_itself : pre_form mix (hits c ∷ []) (assigns 0 0 c 0 itself) ≡ None
 unfolding seniors_of
 first_itself = rw lacks_adm refl
 
-pub first_fresh : and_then (pre_image mix (hits c ∷ []) (assigns 0 0 c 0 fresh)) normal_form ≡ Some (without adm ∷ hits adm ∷ [])
+pub first_fresh : pre_form mix (hits c ∷ []) (assigns 0 0 c 0 fresh) ≡ Some (without adm ∷ hits adm ∷ [])
 unfolding seniors_of
 first_fresh = rw lacks_adm refl
+
+pub first_before : pre_image mix (hits c ∷ []) (assigns 0 0 c 0 fresh) ≡ Some (without adm ∷ hits adm ∷ [])
+unfolding seniors_of
+first_before = rw lacks_adm refl
 
 pub second_obligations : obligations mix (without adm ∷ hits adm ∷ []) ≡ revokes 0 adm 0 itself ∷ revokes 0 adm 0 (other 1) ∷ revokes 0 adm 0 fresh ∷ []
 unfolding seniors_of
 second_obligations = rw lacks_adm refl
 
-pub second_itself : and_then (pre_image mix (without adm ∷ hits adm ∷ []) (revokes 0 adm 0 itself)) normal_form ≡ Some (hits adm ∷ hits adm ∷ [])
+pub second_itself : pre_form mix (without adm ∷ hits adm ∷ []) (revokes 0 adm 0 itself) ≡ Some (hits adm ∷ hits adm ∷ [])
 unfolding seniors_of
 second_itself = refl
 
-pub second_other : and_then (pre_image mix (without adm ∷ hits adm ∷ []) (revokes 0 adm 0 (other 1))) normal_form ≡ Some (anyone ∷ hits adm ∷ [])
+pub second_other : pre_form mix (without adm ∷ hits adm ∷ []) (revokes 0 adm 0 (other 1)) ≡ Some (anyone ∷ hits adm ∷ [])
 unfolding seniors_of
 second_other = refl
 
-pub second_fresh : and_then (pre_image mix (without adm ∷ hits adm ∷ []) (revokes 0 adm 0 fresh)) normal_form ≡ Some (anyone ∷ hits adm ∷ hits adm ∷ [])
+pub second_fresh : pre_form mix (without adm ∷ hits adm ∷ []) (revokes 0 adm 0 fresh) ≡ Some (anyone ∷ hits adm ∷ hits adm ∷ [])
 unfolding seniors_of
 second_fresh = refl
 
@@ -87,15 +104,15 @@ covered_third need needs = inr (inr (inl (embeds_front CoversNeed anyone need (h
 abbrev pub IsMet : List Need → Obligation → Type 0
 IsMet needs ob = (before : List Need) → pre_image mix needs ob ≡ Some before → IsPossible before → IsCovered mix_needs before
 
-pub form_of : (needs : List Need) (ob : Obligation) (before : List Need) (form : Option (List Need)) → and_then (pre_image mix needs ob) normal_form ≡ form
-    → pre_image mix needs ob ≡ Some before → normal_form before ≡ form
-form_of needs ob before form n e = sym (ap (λ o. and_then o normal_form) e) ∙ n
+pub form_of : (rules : Rules) (needs : List Need) (ob : Obligation) (before : List Need) (form : Option (List Need)) → pre_form rules needs ob ≡ form
+    → pre_image rules needs ob ≡ Some before → normal_form before ≡ form
+form_of rules needs ob before form n e = sym (ap (λ o. and_then o normal_form) e) ∙ n
 
-pub by_none : (needs : List Need) (ob : Obligation) → and_then (pre_image mix needs ob) normal_form ≡ None → IsMet needs ob
-by_none needs ob n before e possible = absurd ((none_impossible before).0 (form_of needs ob before None n e) possible)
+pub by_none : (needs : List Need) (ob : Obligation) → pre_form mix needs ob ≡ None → IsMet needs ob
+by_none needs ob n before e possible = absurd ((none_impossible before).0 (form_of mix needs ob before None n e) possible)
 
-pub by_form : (needs : List Need) (ob : Obligation) (form : List Need) → and_then (pre_image mix needs ob) normal_form ≡ Some form → IsCovered mix_needs form → IsMet needs ob
-by_form needs ob form n covered before e possible = (covered_alike mix_needs before form (form_of needs ob before (Some form) n e)).1 covered
+pub by_form : (needs : List Need) (ob : Obligation) (form : List Need) → pre_form mix needs ob ≡ Some form → IsCovered mix_needs form → IsMet needs ob
+by_form needs ob form n covered before e possible = (covered_alike mix_needs before form (form_of mix needs ob before (Some form) n e)).1 covered
 
 pub first_met : Each (IsMet (hits c ∷ [])) (obligations mix (hits c ∷ []))
 first_met = subst (Each (IsMet (hits c ∷ []))) (sym first_obligations) (
@@ -137,13 +154,19 @@ few_users users drawn =
     let long = as_often drawn.choice users drawn.are_users in
     omega (arith, few, long)
 
-pub nobody_has_c : (users : List (List ℕ)) → IsDrawn one_admin users → Meets users (hits c ∷ []) → ⊥
-nobody_has_c users drawn f =
-    let one = f.each 0 (hits c) refl in
-    let d = drawn_profile one_admin drawn.choice users drawn.are_users (f.to 0) one.0 one.1 in
-    let set : one.0 ≡ adm ∷ [] = d.3 ∙ (one_profile d.0 d.1 d.2).1 in
+-- who is drawn from profiles of adm alone has adm alone
+pub has_adm_alone : (profiles : List Profile) → Each (λ (profile : Profile). profile.set ≡ adm ∷ []) profiles → (users : List (List ℕ)) → IsDrawn profiles users
+    → (i : ℕ) (set : List ℕ) → slice_get users i ≡ Some set → set ≡ adm ∷ []
+has_adm_alone profiles all users drawn i set at =
+    let d = drawn_profile profiles drawn.choice users drawn.are_users i set at in
+    d.3 ∙ each_is (λ (profile : Profile). profile.set ≡ adm ∷ []) profiles d.1 d.0 all d.2
+
+pub nobody_has_c : (profiles : List Profile) → Each (λ (profile : Profile). profile.set ≡ adm ∷ []) profiles → (more : List (List ℕ))
+    → IsUnmet profiles (record { hits = (c ∷ []) ∷ more; lacks = [] } ∷ [])
+nobody_has_c profiles all more users drawn f =
+    let one = f.each 0 (record { hits = (c ∷ []) ∷ more; lacks = [] }) refl in
     let common = one.2.hits.0 in
-    apart common.0 common.1 (subst (λ s. IsIn s common.0) set common.2)
+    apart common.0 common.1 (subst (λ s. IsIn s common.0) (has_adm_alone profiles all users drawn (f.to 0) one.0 one.1) common.2)
   where
     apart : (role : ℕ) → IsIn (c ∷ []) role → IsIn (adm ∷ []) role → ⊥
     apart role h k = by_cases (or_cases (eqb c role) false h) (or_cases (eqb adm role) false k)
@@ -152,6 +175,11 @@ nobody_has_c users drawn f =
         by_cases (inl e) (inl f) = let one : 1 ≡ role = eqb-true 1 role e in let none : 0 ≡ role = eqb-true 0 role f in omega (arith, one, none)
         by_cases (inl e) (inr f) = cc
         by_cases (inr e) f = cc
+
+pub nobody_lacks_adm : (profiles : List Profile) → Each (λ (profile : Profile). profile.set ≡ adm ∷ []) profiles → (needs : List Need) → IsUnmet profiles (without adm ∷ needs)
+nobody_lacks_adm profiles all needs users drawn f =
+    let one = f.each 0 (without adm) refl in
+    one.2.lacks adm refl (subst (λ s. IsIn s adm) (sym (has_adm_alone profiles all users drawn (f.to 0) one.0 one.1)) refl)
 
 pub two_users : (a b : Need) (users : List (List ℕ)) → IsDrawn one_admin users → Meets users (a ∷ b ∷ []) → ⊥
 two_users a b users drawn f = let few = few_users users drawn in let long = embeds_long MeetsNeed (a ∷ b ∷ []) users f in omega (arith, few, long)
@@ -163,5 +191,5 @@ mix_closed = record {
   pre_images = λ needs is ob at before e possible.
       let all = each_is (λ needs. Each (IsMet needs) (obligations mix needs)) mix_needs needs is.0 (first_met, (second_met, (third_met, tt))) is.1 in
       each_is (IsMet needs) (obligations mix needs) ob at.0 all at.1 before e possible;
-  unmet = λ needs is. each_is (IsUnmet one_admin) mix_needs needs is.0 (nobody_has_c, (two_users (without adm) (hits adm), (two_users anyone (hits adm), tt))) is.1;
+  unmet = λ needs is. each_is (IsUnmet one_admin) mix_needs needs is.0 (nobody_has_c one_admin (refl, tt) [], (two_users (without adm) (hits adm), (two_users anyone (hits adm), tt))) is.1;
 }

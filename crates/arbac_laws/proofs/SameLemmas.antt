@@ -8,11 +8,13 @@ use Rattle.role_order.specs.Lists.{Each, Some_of}
 use Rattle.role_order.specs.Roles.{AreApart, IsIn, IsOut, IsWithin, has_role, is_within, less_roles}
 use Rattle.arbac_laws.specs.Needs.{Covers, CoversNeed, Need}
 use Rattle.arbac_laws.specs.NormalForms.{IsNormal, IsNormalNeed}
-use Rattle.arbac_laws.specs.Orders.{need_before, set_before}
+use Rattle.role_order.specs.Orders.{set_before}
+use Rattle.arbac_laws.specs.Orders.{need_before}
 use Rattle.arbac_laws.proofs.CountLemmas.{counted, embeds_with}
 use Rattle.arbac_laws.proofs.CoverLemmas.{covers_itself, covers_need}
 use Rattle.arbac_laws.proofs.ListLemmas.{each_own, each_some, each_weaker, some_each}
-use Rattle.arbac_laws.proofs.OrderLemmas.{AreIn, count, is_same, need_order, not_false, not_true, rising_same, same_itself, set_order, sorted_same}
+use Rattle.arbac_laws.proofs.OrderLemmas.{AreIn, count, is_same, need_order, rising_same, same_itself, sorted_same}
+use Rattle.role_order.proofs.OrderLemmas.{not_false, not_true, set_order}
 use Rattle.arbac_laws.proofs.RoleLemmas.{cases_in, in_less}
 use Rattle.role_order.specs.Roles.{Rises}
 use Rattle.role_order.proofs.SetLemmas.{same_set, same_test}

@@ -1,4 +1,4 @@
--- Barriers: the roles that no run gives to anyone.
+-- Barriers: roles that no run gives to anyone, those outside what profiles and rules could give at most.
 use Rattle.std.specs.Prelude.{ℕ, ◌≡◌, not, if◌then◌else◌, List, [], ◌∷◌, filter, Some}
 use Rattle.role_order.specs.Lists.{IsOneOf}
 use Rattle.role_order.specs.Roles.{has_role, IsIn, IsWithin, HaveCommon}

@@ -1,17 +1,7 @@
--- The orders of sets, of lists of hits, of user requirements and of requirements.
-use Rattle.std.specs.Prelude.{ℕ, ◌≡◌, ◌⊎◌, Bool, true, false, ◌||◌, ◌&&◌, not, nat_lt, List, [], ◌∷◌, length}
+-- The orders of lists of hits, of user requirements and of requirements.
+use Rattle.std.specs.Prelude.{Bool, ◌||◌, ◌&&◌, not, nat_lt, List, length, ℕ}
+use Rattle.role_order.specs.Orders.{list_before, set_before}
 use Rattle.arbac_laws.specs.Needs.{Need}
-
--- a list comes before another at the first place where they differ, or as its front
-abbrev pub list_before : {A : Type 0} → (A → A → Bool) → List A → List A → Bool
-list_before before [] [] = false
-list_before before [] (y ∷ ys) = true
-list_before before (x ∷ xs) [] = false
-list_before before (x ∷ xs) (y ∷ ys) = before x y || (not (before y x) && list_before before xs ys)
-
--- sets as rising lists of numbers
-abbrev pub set_before : List ℕ → List ℕ → Bool
-set_before = list_before nat_lt
 
 -- lists of hits as lists of sets
 abbrev pub hits_before : List (List ℕ) → List (List ℕ) → Bool
@@ -24,10 +14,3 @@ need_before a b = hits_before a.hits b.hits || (not (hits_before b.hits a.hits) 
 -- by the number of users, and then as lists
 abbrev pub requirement_before : List Need → List Need → Bool
 requirement_before a b = nat_lt (length a) (length b) || (not (nat_lt (length b) (length a)) && list_before need_before a b)
-
--- nothing is before itself, what is before a second that is before a third is before the third, and
--- of two different ones one is before the other
-pub record IsTotalOrder {A : Type 0} (before : A → A → Bool) : Type 0 where
-  pub never : (x : A) → ¬ (before x x ≡ true)
-  pub through : (x y z : A) → before x y ≡ true → before y z ≡ true → before x z ≡ true
-  pub total : (x y : A) → (before x y ≡ true) ⊎ ((x ≡ y) ⊎ (before y x ≡ true))

@@ -1,10 +1,13 @@
--- A small policy, worked.
+-- Small policies, worked.
 use Rattle.std.specs.Prelude.{ℕ, List, [], ◌∷◌, false, Some, codes}
 use Rattle.role_order.specs.declared.range.Range.{Range}
-use Rattle.arbac_policy.specs.declared.cond.Cond.TheVariants.{Lacks}
+use Rattle.arbac_policy.specs.declared.cond.Cond.TheVariants.{Any, Has, Lacks, Or}
 use Rattle.arbac_policy.specs.declared.profile.Profile.{Profile}
-use Rattle.arbac_policy.specs.Rules.{Rules}
+use Rattle.arbac_policy.specs.Rules.{Rules, policy_of}
 use Rattle.arbac_laws.specs.Needs.{Need}
+use Rattle.arbac_laws.specs.PreImages.{fresh}
+use Rattle.arbac_laws.specs.Obligations.{assigns}
+use Rattle.arbac_laws.specs.Recorded.{Entry, of_goal, of_parent}
 
 abbrev pub adm : ℕ
 adm = 0
@@ -61,3 +64,50 @@ mix_apart pairs = record {
 -- a hit that either role meets
 abbrev pub hits_either : ℕ → ℕ → Need
 hits_either first second = record { hits = (first ∷ second ∷ []) ∷ []; lacks = [] }
+
+-- a hit for each of them
+abbrev pub hits_both : ℕ → ℕ → Need
+hits_both first second = record { hits = (first ∷ []) ∷ (second ∷ []) ∷ []; lacks = [] }
+
+-- a hit and a lack
+abbrev pub hits_without : ℕ → ℕ → Need
+hits_without held lacked = record { hits = (held ∷ []) ∷ []; lacks = lacked ∷ [] }
+
+-- without d, the first hit is within the second
+abbrev pub untidy : Need
+untidy = record { hits = (c ∷ d ∷ []) ∷ (adm ∷ c ∷ []) ∷ []; lacks = d ∷ [] }
+
+-- at most two users start with adm
+abbrev pub two_admins : List Profile
+two_admins = record { set = adm ∷ []; most = Some 2 } ∷ []
+
+-- what none who are drawn so meet: the goal c, and what must hold before a new user gives it
+abbrev pub mix_entries : List Entry
+mix_entries =
+    record { origin = of_goal 0; needs = hits c ∷ [] }
+    ∷ record { origin = of_parent 0 (assigns 0 0 c 0 fresh); needs = without adm ∷ hits adm ∷ [] }
+    ∷ []
+
+-- members of adm may give c and d, which exclude each other
+abbrev pub pair_policy : Rules
+pair_policy = policy_of
+    (record { names = codes "adm" ∷ codes "c" ∷ codes "d" ∷ []; edges = [] })
+    (record { admin = adm; cond = Any; range = only c } ∷ record { admin = adm; cond = Any; range = only d } ∷ [])
+    [] [] []
+    ((c, d) ∷ [])
+
+-- members of adm may give c to members of adm and to those without d, and may take d away; members of d
+-- may give c to anyone
+abbrev pub giver_policy : Rules
+giver_policy = policy_of
+    (record { names = codes "adm" ∷ codes "c" ∷ codes "d" ∷ []; edges = [] })
+    (record { admin = adm; cond = Or (Has adm) (Lacks d); range = only c } ∷ record { admin = d; cond = Any; range = only c } ∷ [])
+    (record { admin = adm; range = only d } ∷ [])
+    [] [] []
+
+-- adm is above d, and members of d may give both to members of d
+abbrev pub senior_policy : Rules
+senior_policy = policy_of
+    (record { names = codes "adm" ∷ codes "c" ∷ codes "d" ∷ []; edges = (adm, d) ∷ [] })
+    (record { admin = d; cond = Has d; range = record { low = d; high = adm; low_open = false; high_open = false } } ∷ [])
+    [] [] [] []

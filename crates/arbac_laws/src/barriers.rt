@@ -12,8 +12,8 @@ ghost use Rattle.arbac_laws.specs.Closed.{IsUnmet};
 ghost use Rattle.arbac_laws.specs.Barriers.{HasGains, IsCeiling, barriers};
 
 /// Outside any set that has what is drawn and what the rules give, so also outside the ceiling: each
-/// pre-image of a barrier is covered by a barrier, and no drawn population meets one. There is one
-/// ceiling.
+/// pre-image of a barrier is covered by a barrier, and no drawn population meets one. Two ceilings
+/// have the same roles.
 pub fn barrier_laws()
     ensures closed { (rules : Rules) → AreEdges (length rules.order.names) rules.order.edges → IsPolicy rules →
         (profiles : List Profile) (set : List ℕ) → HasGains rules profiles set →

@@ -8,7 +8,8 @@ ghost use Rattle.arbac_policy.specs.Goals.{GoalMet};
 ghost use Rattle.arbac_laws.specs.Needs.{Meets, IsPossible};
 ghost use Rattle.arbac_laws.specs.Goals.{goal_requirements};
 
-/// A population meets the goal exactly where it meets a possible goal requirement.
+/// Goals as requirements: different users meet the conditions exactly where they meet one of the
+/// possible combinations.
 pub fn goal_laws()
     ensures { (order : Graph) → AreEdges (length order.names) order.edges → (goal : List Term) (users : List (List ℕ)) →
         GoalMet order.edges goal users ↔

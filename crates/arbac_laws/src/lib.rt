@@ -20,10 +20,13 @@ pub use closed::closed_laws;
 pub use conjuncts::conjunct_laws;
 pub use cover::cover_laws;
 pub use goals::goal_laws;
-pub use normal_forms::normal_laws;
+pub use normal_forms::{form_place_laws, normal_laws};
 pub use orders::order_laws;
 pub use places::{deficient_laws, place_laws};
 pub use pre_images::{backward_laws, forward_laws, obligation_laws};
 pub use recorded::recorded_laws;
-pub use rows::{closed_row, cover_rows, pair_rows, worked_rows};
+pub use rows::{
+    barrier_rows, closed_row, cover_rows, exclusive_rows, form_rows, listing_rows, pair_rows,
+    recorded_row, senior_rows, worked_rows,
+};
 pub use sets::set_laws;

@@ -1,6 +1,7 @@
 //! Laws of the orders.
 
-ghost use Rattle.arbac_laws.specs.Orders.{IsTotalOrder, set_before, hits_before, need_before, requirement_before};
+ghost use Rattle.role_order.specs.Orders.{IsTotalOrder, set_before};
+ghost use Rattle.arbac_laws.specs.Orders.{hits_before, need_before, requirement_before};
 
 /// Sets, lists of hits, user requirements and requirements are in a strict total order each.
 pub fn order_laws()

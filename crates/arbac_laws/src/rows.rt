@@ -1,15 +1,20 @@
-//! A small policy, worked.
+//! Small policies, worked.
 
-ghost use Rattle.std.specs.Prelude.{List, [], ◌∷◌, ℕ, ◌≡◌, Some, None};
-ghost use Rattle.arbac_policy.specs.Truth.{has};
+ghost use Rattle.std.specs.Prelude.{List, [], ◌∷◌, ℕ, ◌≡◌, length, Some, None};
+ghost use Rattle.role_order.specs.Lists.{Each};
+ghost use Rattle.arbac_policy.specs.Truth.{has, lacks, both};
 ghost use Rattle.arbac_policy.specs.Goals.{IsReachable};
 ghost use Rattle.arbac_laws.specs.Needs.{Meets, Covers};
+ghost use Rattle.arbac_laws.specs.Conjuncts.{conjuncts};
 ghost use Rattle.arbac_laws.specs.Goals.{goal_requirements};
 ghost use Rattle.arbac_laws.specs.PreImages.{itself, other, fresh};
-ghost use Rattle.arbac_laws.specs.Obligations.{assigns, revokes, obligations, pre_image, and_then};
-ghost use Rattle.arbac_laws.specs.NormalForms.{normal_form};
+ghost use Rattle.arbac_laws.specs.Obligations.{assigns, revokes, obligations, pre_image};
+ghost use Rattle.arbac_laws.specs.NormalForms.{normal_form, pre_form, AreFormPlaces};
 ghost use Rattle.arbac_laws.specs.Closed.{IsClosedList};
-ghost use Rattle.arbac_laws.specs.Rows.{mix, mix_apart, adm, c, d, hits, hits_either, without, anyone, one_admin, mix_needs};
+ghost use Rattle.arbac_laws.specs.Recorded.{IsRecordedList};
+ghost use Rattle.arbac_laws.specs.Barriers.{IsCeiling, barriers};
+ghost use Rattle.arbac_laws.specs.Rows.{mix, mix_apart, pair_policy, giver_policy, senior_policy, adm, c, d, one_admin, two_admins, mix_needs, mix_entries};
+ghost use Rattle.arbac_laws.specs.Rows.{hits, hits_either, hits_both, hits_without, without, anyone, untidy};
 
 /// The goal c of a policy where members of adm give c to those without adm, and take adm away: its
 /// requirement, its obligations, and the normal forms of their pre-images.
@@ -17,16 +22,16 @@ ghost use Rattle.arbac_laws.specs.Rows.{mix, mix_apart, adm, c, d, hits, hits_ei
 pub fn worked_rows()
     ensures goal { goal_requirements mix.order (has c ∷ []) ≡ (hits c ∷ []) ∷ [] }
     ensures first { obligations mix (hits c ∷ []) ≡ assigns 0 0 c 0 itself ∷ assigns 0 0 c 0 fresh ∷ [] }
-    ensures itself { and_then (pre_image mix (hits c ∷ []) (assigns 0 0 c 0 itself)) normal_form ≡ None }
-    ensures fresh { and_then (pre_image mix (hits c ∷ []) (assigns 0 0 c 0 fresh)) normal_form ≡
+    ensures itself { pre_form mix (hits c ∷ []) (assigns 0 0 c 0 itself) ≡ None }
+    ensures fresh { pre_form mix (hits c ∷ []) (assigns 0 0 c 0 fresh) ≡
         Some (without adm ∷ hits adm ∷ []) }
     ensures second { obligations mix (without adm ∷ hits adm ∷ []) ≡
         revokes 0 adm 0 itself ∷ revokes 0 adm 0 (other 1) ∷ revokes 0 adm 0 fresh ∷ [] }
-    ensures second_itself { and_then (pre_image mix (without adm ∷ hits adm ∷ []) (revokes 0 adm 0 itself)) normal_form ≡
+    ensures second_itself { pre_form mix (without adm ∷ hits adm ∷ []) (revokes 0 adm 0 itself) ≡
         Some (hits adm ∷ hits adm ∷ []) }
-    ensures second_other { and_then (pre_image mix (without adm ∷ hits adm ∷ []) (revokes 0 adm 0 (other 1))) normal_form ≡
+    ensures second_other { pre_form mix (without adm ∷ hits adm ∷ []) (revokes 0 adm 0 (other 1)) ≡
         Some (anyone ∷ hits adm ∷ []) }
-    ensures second_fresh { and_then (pre_image mix (without adm ∷ hits adm ∷ []) (revokes 0 adm 0 fresh)) normal_form ≡
+    ensures second_fresh { pre_form mix (without adm ∷ hits adm ∷ []) (revokes 0 adm 0 fresh) ≡
         Some (anyone ∷ hits adm ∷ hits adm ∷ []) }
     ensures third { obligations mix (anyone ∷ hits adm ∷ []) ≡ [] }
     ensures impossible { normal_form (record { hits = (c ∷ []) ∷ []; lacks = c ∷ [] } ∷ []) ≡ None }
@@ -35,19 +40,69 @@ pub fn worked_rows()
 /// What exclusive pairs make of the pre-image: d is barred where it excludes c, and nothing will do
 /// where c is both roles of a pair.
 pub fn pair_rows()
-    ensures barred { and_then (pre_image (mix_apart ((c, d) ∷ [])) (hits c ∷ []) (assigns 0 0 c 0 fresh)) normal_form ≡
+    ensures barred { pre_form (mix_apart ((c, d) ∷ [])) (hits c ∷ []) (assigns 0 0 c 0 fresh) ≡
         Some (record { hits = []; lacks = adm ∷ d ∷ [] } ∷ hits adm ∷ []) }
-    ensures second { and_then (pre_image (mix_apart ((d, c) ∷ [])) (hits c ∷ []) (assigns 0 0 c 0 fresh)) normal_form ≡
+    ensures second { pre_form (mix_apart ((d, c) ∷ [])) (hits c ∷ []) (assigns 0 0 c 0 fresh) ≡
         Some (record { hits = []; lacks = adm ∷ d ∷ [] } ∷ hits adm ∷ []) }
     ensures none { pre_image (mix_apart ((c, c) ∷ [])) (hits c ∷ []) (assigns 0 0 c 0 fresh) ≡ None }
-    ensures other { and_then (pre_image (mix_apart ((adm, d) ∷ [])) (hits c ∷ []) (assigns 0 0 c 0 fresh)) normal_form ≡
+    ensures other { pre_form (mix_apart ((adm, d) ∷ [])) (hits c ∷ []) (assigns 0 0 c 0 fresh) ≡
         Some (without adm ∷ hits adm ∷ []) }
 {}
 
-/// One user isn't two; who lacks a role covers nobody who may have it; a hit covers a lesser one, and
-/// not the other way round.
+/// Nobody can be given both roles of a pair: no obligation has a possible pre-image, so that no run leads
+/// there.
+pub fn exclusive_rows()
+    ensures four { obligations pair_policy (hits_both c d ∷ []) ≡
+        assigns 0 0 c 0 itself ∷ assigns 0 0 c 0 fresh ∷ assigns 1 0 d 0 itself ∷ assigns 1 0 d 0 fresh ∷ [] }
+    ensures none { Each (λ ob. pre_form pair_policy (hits_both c d ∷ []) ob ≡ None) (obligations pair_policy (hits_both c d ∷ [])) }
+    ensures closed { IsClosedList pair_policy one_admin (both (has c) (has d) ∷ []) ((hits_both c d ∷ []) ∷ []) }
+    ensures unreachable { ¬ IsReachable pair_policy one_admin (both (has c) (has d) ∷ []) }
+{}
+
+/// Obligations go by rule, conjunct, role, target and administrator, and those to revoke come last.
+pub fn listing_rows()
+    ensures all { obligations giver_policy (hits_without c d ∷ hits c ∷ []) ≡
+        assigns 0 0 c 0 itself ∷ assigns 0 0 c 0 (other 1) ∷ assigns 0 0 c 0 fresh ∷
+        assigns 0 0 c 1 itself ∷ assigns 0 0 c 1 (other 0) ∷ assigns 0 0 c 1 fresh ∷
+        assigns 0 1 c 0 itself ∷ assigns 0 1 c 0 (other 1) ∷ assigns 0 1 c 0 fresh ∷
+        assigns 0 1 c 1 itself ∷ assigns 0 1 c 1 (other 0) ∷ assigns 0 1 c 1 fresh ∷
+        assigns 1 0 c 0 itself ∷ assigns 1 0 c 0 (other 1) ∷ assigns 1 0 c 0 fresh ∷
+        assigns 1 0 c 1 itself ∷ assigns 1 0 c 1 (other 0) ∷ assigns 1 0 c 1 fresh ∷
+        revokes 0 d 0 itself ∷ revokes 0 d 0 (other 1) ∷ revokes 0 d 0 fresh ∷ [] }
+{}
+
+/// Who is above a role counts for it: in a goal, where it is barred, in a range, in a condition and as
+/// administrator.
+pub fn senior_rows()
+    ensures goal { goal_requirements senior_policy.order (has d ∷ []) ≡ (hits_either adm d ∷ []) ∷ [] }
+    ensures barred { conjuncts senior_policy.order (lacks d) ≡ record { hits = []; lacks = adm ∷ d ∷ [] } ∷ [] }
+    ensures range { obligations senior_policy (hits_either adm d ∷ []) ≡
+        assigns 0 0 adm 0 itself ∷ assigns 0 0 adm 0 fresh ∷ assigns 0 0 d 0 itself ∷ assigns 0 0 d 0 fresh ∷ [] }
+    ensures before { pre_form senior_policy (hits_either adm d ∷ []) (assigns 0 0 d 0 fresh) ≡
+        Some (hits_either adm d ∷ hits_either adm d ∷ []) }
+{}
+
+/// The lack d leaves the hit with it, the hit that contains the other is left out, and users change
+/// places; users who become equal keep their order, so that a new administrator stands last of them.
+pub fn form_rows()
+    ensures form { normal_form (untidy ∷ hits adm ∷ hits_without c d ∷ []) ≡
+        Some (hits adm ∷ hits_without c d ∷ hits_without c d ∷ []) }
+    ensures moved { AreFormPlaces (untidy ∷ hits adm ∷ hits_without c d ∷ [])
+        (hits adm ∷ hits_without c d ∷ hits_without c d ∷ []) (1 ∷ 0 ∷ 2 ∷ []) }
+    ensures empty { normal_form (record { hits = [] ∷ []; lacks = [] } ∷ []) ≡ None }
+    ensures before { pre_image mix (without adm ∷ hits adm ∷ []) (revokes 0 adm 0 fresh) ≡
+        Some (anyone ∷ hits adm ∷ hits adm ∷ []) }
+    ensures kept { AreFormPlaces (anyone ∷ hits adm ∷ hits adm ∷ []) (anyone ∷ hits adm ∷ hits adm ∷ []) (0 ∷ 1 ∷ 2 ∷ []) }
+    ensures turned { ¬ AreFormPlaces (anyone ∷ hits adm ∷ hits adm ∷ []) (anyone ∷ hits adm ∷ hits adm ∷ []) (0 ∷ 2 ∷ 1 ∷ []) }
+{}
+
+/// One user isn't two, and two cover no single one; who lacks a role covers nobody who may have it; a
+/// hit covers a lesser one, and not the other way round.
 pub fn cover_rows()
     ensures two { ¬ Meets ([] ∷ []) (anyone ∷ anyone ∷ []) }
+    ensures one { ¬ Covers (anyone ∷ anyone ∷ []) (anyone ∷ []) }
+    ensures third { Covers (anyone ∷ hits adm ∷ []) (hits adm ∷ hits adm ∷ []) }
+    ensures third_first { ¬ Covers (anyone ∷ hits adm ∷ []) (hits c ∷ []) }
     ensures lacks { ¬ Covers (without c ∷ []) (anyone ∷ []) }
     ensures hit { Covers (hits_either adm c ∷ []) (hits c ∷ []) }
     ensures lesser { ¬ Covers (hits c ∷ []) (hits_either adm c ∷ []) }
@@ -59,4 +114,19 @@ pub fn cover_rows()
 pub fn closed_row()
     ensures closed { IsClosedList mix one_admin (has c ∷ []) mix_needs }
     ensures unreachable { ¬ IsReachable mix one_admin (has c ∷ []) }
+{}
+
+/// What two users of adm don't meet at first, recorded with its origins.
+pub fn recorded_row()
+    ensures { IsRecordedList mix two_admins (has c ∷ []) mix_entries }
+{}
+
+/// With a user of adm to start from, adm and c may be had, and a third role not; with nobody, none may.
+pub fn barrier_rows()
+    ensures both { IsCeiling mix one_admin (adm ∷ c ∷ []) }
+    ensures no_barrier { barriers (length mix.order.names) (adm ∷ c ∷ []) ≡ [] }
+    ensures two_of_three { IsCeiling (mix_apart []) one_admin (adm ∷ c ∷ []) }
+    ensures third { barriers (length (mix_apart []).order.names) (adm ∷ c ∷ []) ≡ (hits d ∷ []) ∷ [] }
+    ensures neither { IsCeiling mix [] [] }
+    ensures barrier { barriers (length mix.order.names) [] ≡ (hits_either adm c ∷ []) ∷ [] }
 {}

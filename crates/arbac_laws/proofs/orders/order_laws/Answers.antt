@@ -1,4 +1,5 @@
-use Rattle.arbac_laws.proofs.OrderLemmas.{set_order, hits_order, need_order, requirement_order}
+use Rattle.role_order.proofs.OrderLemmas.{set_order}
+use Rattle.arbac_laws.proofs.OrderLemmas.{hits_order, need_order, requirement_order}
 use Rattle.arbac_laws.proofs.orders.order_laws.Goals as goal
 
 pub returns : goal.returns
