@@ -1,16 +1,15 @@
 -- Pairs of conditions and users, and matchings of them.
-use Rattle.std.proofs.Common.{ℕ, ◌≡◌, ◌<◌, ◌≤◌, ◌+◌, ◌∙◌, Bool, true, false, cond, eqb, List, [], ◌∷◌, ◌++◌, length, get_or, map, refl, arith, zero, suc, sym, subst, ap, inl, inr, Option, Some, None}
-use Rattle.std.specs.Prelude.{◌⊎◌, ◌↔◌, ◌==◌, Contains, All, slice_get, slice_index, replicate, count_by}
-use Rattle.std.proofs.lemmas.Bool.{eqb-true, eq-eqb, ne_eqb}
+use Rattle.std.proofs.Common.{ℕ, ◌≡◌, ◌<◌, ◌≤◌, ◌+◌, ◌∙◌, Bool, true, false, cond, eqb, List, [], ◌∷◌, ◌++◌, length, get_or, map, refl, arith, zero, suc, sym, subst, ap, inl, inr, Some}
+use Rattle.std.specs.Prelude.{◌⊎◌, ◌↔◌, ◌==◌, Contains, slice_get, replicate}
+use Rattle.std.proofs.lemmas.Bool.{eqb-true, eq-eqb}
 use Rattle.std.proofs.lemmas.Bool.Decides.{nat_tests}
-use Rattle.role_order.proofs.ListLemmas.{get_within, get_at, get_any}
+use Rattle.role_order.proofs.ListLemmas.{get_within, get_any}
 use Rattle.role_order.proofs.ReachLemmas.{contains_front, contains_last, contains_split}
 use Rattle.arbac_policy.specs.Truth.{Term, user, Satisfies}
 use Rattle.arbac_policy.specs.Goals.{GoalMet}
-use Rattle.arbac_laws.specs.Places.{ArePlaces}
 use Rattle.arbac_laws.proofs.PlaceLemmas.{to_places}
 use Rattle.hall_match.proofs.CountLemmas.{count-cons}
-use Rattle.hall_match.specs.Matchings.{AreEdges, capacity_at, uses, IsMatching, IsLeast, IsBefore}
+use Rattle.hall_match.specs.Matchings.{AreEdges, capacity_at, uses, IsMatching, IsLeast}
 use Rattle.plan_replay.specs.GoalLists.{MeetGoal, AreLeast, IsMetBy, ArePairs}
 
 -- the pairs of the users before a place, with that of the user there

@@ -9,7 +9,7 @@ use Rattle.arbac_policy.specs.declared.act.ActKind.TheVariants.{Assign, Weak, St
 use Rattle.arbac_policy.specs.Truth.{Holder, user}
 use Rattle.arbac_policy.specs.Rules.{Rules}
 use Rattle.arbac_policy.specs.Holders.{admins_of, falling}
-use Rattle.arbac_policy.specs.Steps.{AssignStep, WeakStep, WeakSteps, StrongStep, KindStep, Step, Run}
+use Rattle.arbac_policy.specs.Steps.{WeakSteps, KindStep, Step, Run}
 use Rattle.ura_core.proofs.DenialLemmas.{weak_step_one}
 
 weak_steps_one : (holder : Holder) (rules : Rules) (users old : List (List ℕ)) (admin target : ℕ) (roles : List ℕ) (new other : List (List ℕ))

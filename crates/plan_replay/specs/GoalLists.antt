@@ -1,5 +1,5 @@
 -- Lists of the users who meet a goal.
-use Rattle.std.specs.Prelude.{ℕ, ◌≡◌, ◌<◌, ◌⊎◌, ◌↔◌, List, Contains, slice_get, Some}
+use Rattle.std.specs.Prelude.{ℕ, ◌≡◌, ◌⊎◌, ◌↔◌, List, Contains, slice_get, Some}
 use Rattle.arbac_policy.specs.Truth.{Term, user, Satisfies}
 use Rattle.arbac_laws.specs.Places.{ArePlaces}
 use Rattle.hall_match.specs.Matchings.{IsBefore}

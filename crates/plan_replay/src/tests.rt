@@ -7,7 +7,7 @@ ghost use Rattle.arbac_policy.specs.Truth.{term_of, IsKnown};
 use super::*;
 use arbac_policy::{Act, ActKind, CanAssign, CanRevoke, Cond, Part, Policy};
 use role_order::{Order, Range, RoleSet};
-use std::alloc::Global;
+use std::alloc::{AllocError, Global};
 use std::process::Abort;
 use std::test::Fail;
 
@@ -130,5 +130,159 @@ fn goals_are_met_by_the_least_list(rt: HostRuntime) -> Result<(), Fail> {
     assert_met(&rt, alloc, &policy, &[adm, adm], &has_c, None)?;
     let has_adm = [Cond::Has(ADM), Cond::Has(ADM)];
     assert_met(&rt, alloc, &policy, &[adm, adm], &has_adm, Some(&[0, 1]))?;
+    Ok(())
+}
+
+/// A condition that one user has to meet.
+#[derive(Clone, Copy)]
+enum Want {
+    Anyone,
+    Adm,
+    NoAdm,
+    C,
+    NoC,
+}
+
+/// Users' sets, and what is wanted of different users, at most four and three.
+const GOALS: [(&[&[u16]], &[Want]); 16] = [
+    (&[], &[]),
+    (&[], &[Want::Anyone]),
+    (&[&[ADM], &[C]], &[]),
+    // One user meets both conditions.
+    (&[&[ADM, C]], &[Want::Adm, Want::C]),
+    (&[&[ADM, C], &[]], &[Want::Adm, Want::C]),
+    // The later condition needs the earlier user.
+    (&[&[ADM, C], &[C]], &[Want::C, Want::Adm]),
+    (&[&[ADM, C], &[ADM]], &[Want::Adm, Want::C]),
+    (&[&[ADM], &[], &[C]], &[Want::Anyone, Want::NoC, Want::Adm]),
+    // Several lists.
+    (&[&[C], &[C], &[C], &[C]], &[Want::C, Want::C]),
+    (&[&[], &[], &[]], &[Want::NoC, Want::Anyone, Want::NoAdm]),
+    (
+        &[&[C], &[ADM, C], &[C], &[ADM]],
+        &[Want::C, Want::NoAdm, Want::Adm],
+    ),
+    (
+        &[&[], &[ADM], &[C], &[ADM, C]],
+        &[Want::NoC, Want::C, Want::Adm],
+    ),
+    // More conditions than users.
+    (&[&[ADM], &[C]], &[Want::Anyone, Want::Anyone, Want::Anyone]),
+    (&[&[C]], &[Want::C, Want::C]),
+    // No user meets a condition.
+    (&[&[ADM], &[ADM, C]], &[Want::Adm, Want::NoAdm]),
+    (&[&[C], &[ADM, C], &[C]], &[Want::C, Want::C, Want::NoC]),
+];
+
+fn cond_of(want: Want) -> Cond
+    ensures { IsKnown 2 (term_of result) }
+{
+    match want {
+        Want::Anyone => Cond::Any,
+        Want::Adm => Cond::Has(ADM),
+        Want::NoAdm => Cond::Lacks(ADM),
+        Want::C => Cond::Has(C),
+        Want::NoC => Cond::Lacks(C),
+    }
+}
+
+fn meets(set: &RoleSet, want: Want) -> bool {
+    match want {
+        Want::Anyone => true,
+        Want::Adm => set.has(ADM),
+        Want::NoAdm => !set.has(ADM),
+        Want::C => set.has(C),
+        Want::NoC => !set.has(C),
+    }
+}
+
+fn set_of(roles: &[u16]) -> RoleSet {
+    let mut set = RoleSet::empty();
+    for role in roles {
+        if *role < 2 {
+            set = set.with(*role);
+        }
+    }
+    set
+}
+
+fn sets_of(alloc: Global, rows: &[&[u16]]) -> Result<Vec<RoleSet>, AllocError> {
+    let mut sets = Vec::new(alloc);
+    for roles in rows {
+        sets.push(set_of(roles))?;
+    }
+    Ok(sets)
+}
+
+fn are_different(users: &[u32]) -> bool {
+    for at in 0..users.len() {
+        if users[..at].contains(&users[at]) {
+            return false;
+        }
+    }
+    true
+}
+
+fn meet_all(sets: &[RoleSet], wants: &[Want], users: &[u32]) -> bool {
+    for (user, want) in users.iter().zip(wants) {
+        match sets.get(*user as usize) {
+            Some(set) => if !meets(set, *want) {
+                return false;
+            },
+            None => return false,
+        }
+    }
+    true
+}
+
+/// The least list, out of every list of three places below four.
+fn least_of_all(sets: &[RoleSet], wants: &[Want]) -> Option<[u32; 3]> {
+    let count = wants.len().min(3);
+    for code in 0..64u32 {
+        let users = [code / 16, code / 4 % 4, code % 4];
+        if are_different(&users[..count]) && meet_all(sets, wants, &users[..count]) {
+            return Some(users);
+        }
+    }
+    None
+}
+
+/// Asserts that the goal is met by the least of all lists, or by none.
+fn assert_least(
+    rt: &impl Abort,
+    alloc: Global,
+    sets: &[RoleSet],
+    wants: &[Want],
+    goal: &[Cond],
+) -> Result<(), Fail>
+    requires known { Each (λ cond. IsKnown 2 (term_of cond)) goal.now }
+    requires conditions { length goal.now < 2 ^ 32 }
+{
+    let policy = small_policy(alloc)?;
+    assert!(rt; policy.order().count() == 2 && sets.len() <= 4 && wants.len() <= 3);
+    let least = least_of_all(sets, wants);
+    let wanted = least.as_ref().map(|users| &users[..wants.len()]);
+    assert_met(rt, alloc, &policy, sets, goal, wanted)
+}
+
+#[test]
+fn the_least_of_all_lists_meets_the_goal(rt: HostRuntime) -> Result<(), Fail> {
+    let alloc = rt.alloc();
+    for (rows, wants) in GOALS {
+        let sets = sets_of(alloc, rows)?;
+        match wants {
+            [] => assert_least(&rt, alloc, &sets, wants, &[])?,
+            [a] => assert_least(&rt, alloc, &sets, wants, &[cond_of(*a)])?,
+            [a, b] => {
+                let goal = [cond_of(*a), cond_of(*b)];
+                assert_least(&rt, alloc, &sets, wants, &goal)?
+            }
+            [a, b, c] => {
+                let goal = [cond_of(*a), cond_of(*b), cond_of(*c)];
+                assert_least(&rt, alloc, &sets, wants, &goal)?
+            }
+            _ => assert!(rt; false, "too many conditions"),
+        }
+    }
     Ok(())
 }

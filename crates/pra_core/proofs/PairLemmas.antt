@@ -1,9 +1,8 @@
 -- No exclusive pair keeps a role from a permission.
-use Rattle.std.proofs.Common.{ℕ, ◌≡◌, ◌<◌, ◌≤◌, List, [], ◌∷◌, length, subst, inl, inr}
+use Rattle.std.proofs.Common.{ℕ, ◌≡◌, ◌<◌, ◌≤◌, List, [], ◌∷◌, length, inl, inr}
 use Rattle.std.specs.Prelude.{◌⊎◌}
 use Rattle.arbac_policy.specs.declared.act.ActKind.{ActKind}
 use Rattle.arbac_policy.specs.declared.act.ActKind.TheVariants.{Assign, Weak, Strong}
-use Rattle.arbac_policy.specs.declared.verdict.Part.{Part}
 use Rattle.arbac_policy.specs.declared.verdict.Part.TheVariants.{NoRole, Exclusive}
 use Rattle.arbac_policy.specs.Truth.{permission}
 use Rattle.arbac_policy.specs.Rules.{Rules}

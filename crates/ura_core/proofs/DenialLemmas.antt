@@ -1,10 +1,10 @@
 -- An act that is denied has no step.
-use Rattle.std.proofs.Common.{ℕ, ◌≡◌, ◌<◌, ◌≤◌, ◌∙◌, Bool, true, false, List, [], ◌∷◌, length, refl, arith, sym, subst, ap, inl, inr, Some, None, eqb}
+use Rattle.std.proofs.Common.{ℕ, ◌≡◌, ◌<◌, ◌≤◌, ◌∙◌, true, List, [], ◌∷◌, length, refl, arith, sym, subst, ap, inl, inr, Some, None, eqb}
 use Rattle.std.specs.Prelude.{◌⊎◌, slice_get, slice_set}
 use Rattle.std.proofs.lemmas.Bool.{eqb-true, eq-eqb}
-use Rattle.role_order.specs.Lists.{Some_of, IsFirst}
+use Rattle.role_order.specs.Lists.{Some_of}
 use Rattle.role_order.specs.Ranges.{IsInRange}
-use Rattle.role_order.specs.Roles.{has_role, with_role, without_role, IsIn}
+use Rattle.role_order.specs.Roles.{has_role, without_role, IsIn}
 use Rattle.role_order.proofs.ListLemmas.{some_at}
 use Rattle.role_order.proofs.SetLemmas.{or_cases, has_role-with_role}
 use Rattle.arbac_policy.specs.declared.act.ActKind.{ActKind}
@@ -12,7 +12,7 @@ use Rattle.arbac_policy.specs.declared.act.ActKind.TheVariants.{Assign, Weak, St
 use Rattle.arbac_policy.specs.declared.verdict.Part.{Part}
 use Rattle.arbac_policy.specs.declared.verdict.Part.TheVariants.{NoUser, NoRole, NoRange, NoAdmin, NoCondition, Exclusive}
 use Rattle.arbac_policy.specs.declared.verdict.Side.TheVariants.{Admin, Target}
-use Rattle.arbac_policy.specs.Truth.{Holder, IsMember}
+use Rattle.arbac_policy.specs.Truth.{Holder}
 use Rattle.arbac_policy.specs.Rules.{Rules}
 use Rattle.arbac_policy.specs.Holders.{assign_rules, revoke_rules, pairs_of, admins_of, falling}
 use Rattle.arbac_policy.specs.Steps.{Blocks, LetsAssign, LetsRevoke, AssignStep, WeakStep, WeakSteps, StrongStep, KindStep}

@@ -1,10 +1,9 @@
 -- The roles that a strong revocation reaches.
-use Rattle.std.proofs.Common.{ℕ, ◌≡◌, ◌<◌, ◌∙◌, ◌||◌, ◌&&◌, Bool, true, false, List, length, sym, subst, inl, inr, eqb}
-use Rattle.std.specs.Prelude.{◌⊎◌, ◌↔◌, filter}
+use Rattle.std.proofs.Common.{ℕ, ◌≡◌, ◌<◌, ◌∙◌, true, List, length, sym, subst, inl, inr, eqb}
+use Rattle.std.specs.Prelude.{◌⊎◌, filter}
 use Rattle.std.proofs.lemmas.Bool.{eqb-true}
-use Rattle.role_order.specs.Roles.{has_role, with_role, IsIn}
-use Rattle.role_order.specs.Graph.{Graph, Leads, AreEdges}
-use Rattle.role_order.specs.Reach.{seniors_of, juniors_of}
+use Rattle.role_order.specs.Roles.{has_role, IsIn}
+use Rattle.role_order.specs.Graph.{Graph, AreEdges}
 use Rattle.role_order.proofs.SetLemmas.{or_cases, and_both, has_role-with_role, has_role-filter}
 use Rattle.role_order.proofs.ReachLemmas.{in_seniors, in_juniors, leads_from_below, leads_to_below}
 use Rattle.arbac_policy.specs.Truth.{Holder}

@@ -1,8 +1,8 @@
 -- Membership of a set with one more role.
-use Rattle.std.proofs.Common.{ℕ, ◌≡◌, ◌∙◌, ◌||◌, Bool, true, false, List, sym, refl, subst, inl, inr, eqb}
+use Rattle.std.proofs.Common.{ℕ, ◌≡◌, ◌∙◌, true, false, List, sym, refl, subst, inl, inr, eqb}
 use Rattle.std.specs.Prelude.{◌⊎◌}
 use Rattle.std.proofs.lemmas.Bool.{eq-eqb, eqb-true}
-use Rattle.role_order.specs.Roles.{has_role, with_role, IsIn}
+use Rattle.role_order.specs.Roles.{has_role, with_role}
 use Rattle.role_order.specs.Graph.{Leads}
 use Rattle.role_order.proofs.SetLemmas.{or_cases, or_right, has_role-with_role}
 use Rattle.arbac_policy.specs.Truth.{IsMember}

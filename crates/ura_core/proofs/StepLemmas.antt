@@ -1,16 +1,15 @@
 -- Steps of weak revocations one after another, and why a denied act has no step.
-use Rattle.std.proofs.Common.{ℕ, ◌≡◌, ◌<◌, ◌≤◌, ◌+◌, ◌∙◌, Bool, true, false, not, ◌||◌, ◌&&◌, cond, eqb, ltb, List, [], ◌∷◌, ◌++◌, length, refl, arith, zero, suc, sym, subst, ap, inl, inr, Some, None}
-use Rattle.std.specs.Prelude.{◌⊎◌, ◌↔◌, filter, nat_lt, slice_get, slice_set}
-use Rattle.std.proofs.lemmas.Bool.{eqb-true, eq-eqb, ne_eqb}
+use Rattle.std.proofs.Common.{ℕ, ◌≡◌, ◌<◌, ◌≤◌, ◌+◌, ◌∙◌, Bool, true, false, eqb, ltb, List, [], ◌∷◌, ◌++◌, length, refl, arith, zero, suc, sym, subst, ap, inl, inr, Some}
+use Rattle.std.specs.Prelude.{filter, nat_lt, slice_get, slice_set}
+use Rattle.std.proofs.lemmas.Bool.{eqb-true, eq-eqb}
 use Rattle.std.proofs.lemmas.Bool.Decides.{nat_tests}
-use Rattle.role_order.specs.Lists.{Each, Some_of, IsFirst}
-use Rattle.role_order.specs.Roles.{has_role, with_role, without_role, less_roles, IsIn, Rises}
-use Rattle.role_order.proofs.ListLemmas.{some_at}
-use Rattle.role_order.proofs.SetLemmas.{or_cases, or_right, has_role-with_role, has_role-above, each_weaker}
-use Rattle.arbac_policy.specs.Truth.{Holder, user, permission}
+use Rattle.role_order.specs.Lists.{Each, Some_of}
+use Rattle.role_order.specs.Roles.{has_role, IsIn, Rises}
+use Rattle.role_order.proofs.SetLemmas.{or_right, has_role-above, each_weaker}
+use Rattle.arbac_policy.specs.Truth.{Holder}
 use Rattle.arbac_policy.specs.Rules.{Rules}
-use Rattle.arbac_policy.specs.Holders.{assign_rules, revoke_rules, pairs_of, admins_of}
-use Rattle.arbac_policy.specs.Steps.{Blocks, LetsAssign, LetsRevoke, AssignStep, WeakStep, WeakSteps}
+use Rattle.arbac_policy.specs.Holders.{admins_of}
+use Rattle.arbac_policy.specs.Steps.{WeakStep, WeakSteps}
 use Rattle.arbac_policy.specs.Verdicts.{WeakDenied, WeaksDenied}
 use Rattle.arbac_policy.specs.declared.verdict.Part.{Part}
 

@@ -1,8 +1,8 @@
 -- What a strong revocation leaves.
-use Rattle.std.proofs.Common.{ℕ, ◌≡◌, ◌∙◌, ◌||◌, ◌&&◌, Bool, true, false, not, List, [], ◌∷◌, length, refl, sym, subst, ap, inl, inr, eqb, cond, Some}
+use Rattle.std.proofs.Common.{ℕ, ◌≡◌, ◌∙◌, Bool, true, false, not, List, [], ◌∷◌, length, refl, sym, subst, ap, inl, inr, eqb, cond, Some}
 use Rattle.std.specs.Prelude.{◌⊎◌, ◌↔◌, filter, slice_get, slice_set}
-use Rattle.std.proofs.lemmas.Bool.{eqb-true, eq-eqb, false≢true}
-use Rattle.role_order.specs.Roles.{has_role, with_role, without_role, less_roles, IsIn}
+use Rattle.std.proofs.lemmas.Bool.{eqb-true, eq-eqb}
+use Rattle.role_order.specs.Roles.{has_role, without_role, less_roles, IsIn}
 use Rattle.role_order.specs.Graph.{Leads, AreEdges, here}
 use Rattle.role_order.specs.Reach.{seniors_of}
 use Rattle.role_order.proofs.SetLemmas.{or_cases, or_right, and_both, both_true, has_role-with_role, has_role-filter, same_test}
@@ -10,7 +10,7 @@ use Rattle.role_order.proofs.ReachLemmas.{in_seniors}
 use Rattle.arbac_policy.specs.Truth.{Holder, user}
 use Rattle.arbac_policy.specs.Rules.{Rules}
 use Rattle.arbac_policy.specs.Holders.{falling}
-use Rattle.arbac_policy.specs.Steps.{WeakSteps, StrongStep}
+use Rattle.arbac_policy.specs.Steps.{WeakSteps}
 use Rattle.ura_core.proofs.StepLemmas.{get_set, set_twice, set_same}
 
 eqb-sym : (a b : ℕ) → eqb a b ≡ eqb b a

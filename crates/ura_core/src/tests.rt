@@ -154,17 +154,52 @@ const ROWS: [Row; 22] = [
     ),
 ];
 
-fn department(rt: &impl Abort, alloc: Global) -> Result<Order, Fail> {
-    let mut names = Vec::new(alloc);
-    for name in NAMES {
-        names.push(format!(in alloc; "{name}")?)?;
+/// Administrator, target and role of an assignment among two users under 120 roles, and why it is refused.
+const PLACES: [(u32, u32, u16, Part); 4] = [
+    (0, 1, 120, Part::NoRole { role: 120 }),
+    (0, 1, 119, Part::NoRange { role: 119 }),
+    (
+        5,
+        1,
+        120,
+        Part::NoUser {
+            side: Side::Admin,
+            place: 5,
+        },
+    ),
+    (
+        0,
+        5,
+        120,
+        Part::NoUser {
+            side: Side::Target,
+            place: 5,
+        },
+    ),
+];
+
+/// Of a user who gives himself a role under the pair: his set, the role, the new set, and the part that fails.
+type Own = (&'static [u16], u16, &'static [u16], Option<Part>);
+
+const PAIRED: [Own; 3] = [
+    (&[0, 1, 2], 2, &[0, 1, 2], None),
+    (&[0], 1, &[0, 1], None),
+    (&[0, 1], 2, &[], Some(Part::Exclusive { role: 2, pair: 0 })),
+];
+
+fn order_of(
+    rt: &impl Abort,
+    alloc: Global,
+    names: &[&str],
+    edges: &[(u16, u16)],
+) -> Result<Order, Fail> {
+    let mut texts = Vec::new(alloc);
+    for name in names {
+        texts.push(String::from_str(alloc, name)?)?;
     }
-    let mut edges = Vec::new(alloc);
-    for edge in EDGES {
-        edges.push(edge)?;
-    }
-    assert!(rt; names.len() < 1_000 && edges.len() < 1_000);
-    Ok(Order::new(alloc, names, edges)?)
+    let edges = Vec::from_slice(alloc, edges)?;
+    assert!(rt; texts.len() < 1_000 && edges.len() < 1_000);
+    Ok(Order::new(alloc, texts, edges)?)
 }
 
 fn range(low: u16, high: u16, high_open: bool) -> Range {
@@ -197,7 +232,7 @@ fn policy(rt: &impl Abort, alloc: Global) -> Result<Policy, Fail> {
         range: range(1, 0, false),
     };
     let policy = Policy::new(
-        department(rt, alloc)?,
+        order_of(rt, alloc, &NAMES, &EDGES)?,
         vec![in alloc; engineer, lead]?,
         vec![in alloc; engineers, officers]?,
         Vec::new(alloc),
@@ -222,6 +257,47 @@ fn users(rt: &impl Abort, alloc: Global) -> Result<Vec<RoleSet>, AllocError> {
         users.push(set_of(rt, roles))?;
     }
     Ok(users)
+}
+
+/// 120 roles without edges, and no rule.
+fn policy_of_120(rt: &impl Abort, alloc: Global) -> Result<Policy, Fail> {
+    let mut names = Vec::new(alloc);
+    for role in 0..120 {
+        names.push(format!(in alloc; "r{role}")?)?;
+    }
+    assert!(rt; names.len() < 1_000);
+    let order = Order::new(alloc, names, Vec::new(alloc))?;
+    let policy = Policy::new(
+        order,
+        Vec::new(alloc),
+        Vec::new(alloc),
+        Vec::new(alloc),
+        Vec::new(alloc),
+        Vec::new(alloc),
+    );
+    Ok(policy.ok_or("no policy")?)
+}
+
+/// The first role gives this one to anyone.
+fn giving(role: u16) -> CanAssign {
+    CanAssign {
+        admin: 0,
+        cond: Cond::Any,
+        range: range(role, role, false),
+    }
+}
+
+/// `adm` gives `a` and `b`, which exclude one another.
+fn policy_with_a_pair(rt: &impl Abort, alloc: Global) -> Result<Policy, Fail> {
+    let policy = Policy::new(
+        order_of(rt, alloc, &["adm", "a", "b"], &[])?,
+        vec![in alloc; giving(1), giving(2)]?,
+        Vec::new(alloc),
+        Vec::new(alloc),
+        Vec::new(alloc),
+        vec![in alloc; (1, 2)]?,
+    );
+    Ok(policy.ok_or("no policy")?)
 }
 
 fn are_equal(set: &RoleSet, other: &RoleSet) -> bool {
@@ -258,6 +334,44 @@ fn acts_on_users_are_judged_by_the_first_part_that_fails(rt: HostRuntime) -> Res
             role,
         };
         assert_verdict(&rt, decide(&policy, &users, &act), roles, fails, at);
+    }
+    Ok(())
+}
+
+#[test]
+fn places_and_numbers_that_are_not_there_are_told(rt: HostRuntime) -> Result<(), Fail> {
+    let alloc = rt.alloc();
+    let policy = policy_of_120(&rt, alloc)?;
+    let users = [RoleSet::empty(); 2];
+    for (at, row) in PLACES.iter().enumerate() {
+        let (admin, target, role, part) = *row;
+        for kind in [ActKind::Assign, ActKind::Weak, ActKind::Strong] {
+            let act = Act {
+                kind,
+                admin,
+                target,
+                role,
+            };
+            assert_verdict(&rt, decide(&policy, &users, &act), &[], Some(part), at);
+        }
+    }
+    Ok(())
+}
+
+#[test]
+fn a_pair_keeps_a_role_from_whom_it_would_join(rt: HostRuntime) -> Result<(), Fail> {
+    let alloc = rt.alloc();
+    let policy = policy_with_a_pair(&rt, alloc)?;
+    for (at, row) in PAIRED.iter().enumerate() {
+        let (held, role, roles, fails) = *row;
+        let act = Act {
+            kind: ActKind::Assign,
+            admin: 0,
+            target: 0,
+            role,
+        };
+        let verdict = decide(&policy, &[set_of(&rt, held)], &act);
+        assert_verdict(&rt, verdict, roles, fails, at);
     }
     Ok(())
 }

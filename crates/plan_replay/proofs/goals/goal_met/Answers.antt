@@ -1,12 +1,10 @@
-use Rattle.std.proofs.Common.{rules, ℕ, ◌≡◌, ◌<◌, ◌^◌, ◌⊎◌, ◌↔◌, length, map, replicate, Contains, OnOk, IfOk, IfSome, IfNone, Some, ◌+◌, ◌-◌, ◌*◌, ◌≤◌, ◌/◌, ◌%◌, Bool, true, false, nat_eq, nat_lt, List, [], ◌∷◌, ◌++◌, slice_index_or, slice_set, bit_and, bit_or, Fits, w8, w32, w64, Bor, MutBor}
-use Rattle.role_order.specs.Lists.{Each}
-use Rattle.arbac_policy.specs.Truth.{term_of, IsKnown}
+use Rattle.std.proofs.Common.{ℕ, length, map, replicate, rules, Some, List}
+use Rattle.arbac_policy.specs.Truth.{term_of}
 use Rattle.arbac_policy.specs.Goals.{GoalMet}
-use Rattle.plan_replay.specs.GoalLists.{AreLeast, ArePairs, IsMetBy}
-use Rattle.std.proofs.Common.{sym, ap, subst, ◌∙◌}
+use Rattle.plan_replay.specs.GoalLists.{ArePairs}
+use Rattle.std.proofs.Common.{sym, subst}
 use Rattle.plan_replay.proofs.GoalLemmas.{length-map, pairs_edges, least_meets, none_met}
 use Rattle.hall_match.specs.Matchings.{AreEdges, IsMatching, IsLeast}
-use Rattle.hall_match.specs.Outcome.{IfMatched, IfDeficient}
 use Rattle.plan_replay.proofs.goals.goal_met.Goals as goal
 
 -- src/goals.rt:79:11
@@ -33,5 +31,7 @@ returns-clause-unmet c =
     let are : ArePairs c.args.policy.now.order.edges (map term_of c.args.goal.now) c.args.population.now c.in_ok-pairs.pairs.items = rw c.order.ensures.order at c.in_ok-pairs.ensures in
     let none : (list : List ℕ) → ¬ IsMatching (length c.args.goal.now) (replicate (length c.args.population.now) (Some 1)) c.in_ok-pairs.pairs.items list =
     rw (c.in-Deficient.is, c.deref-2.ensures.value, c.deref.ensures.value, c.in_ok-ones.ensures) at c.in_ok-users.ensures.unmatched in
+    let unmet : ¬ GoalMet c.args.policy.now.order.edges (map term_of c.args.goal.now) c.args.population.now =
     none_met c.args.policy.now.order.edges (map term_of c.args.goal.now) c.args.population.now c.in_ok-pairs.pairs.items are
-    (subst (λ n. (list : List ℕ) → ¬ IsMatching n (replicate (length c.args.population.now) (Some 1)) c.in_ok-pairs.pairs.items list) (sym (length-map term_of c.args.goal.now)) none)
+    (subst (λ n. (list : List ℕ) → ¬ IsMatching n (replicate (length c.args.population.now) (Some 1)) c.in_ok-pairs.pairs.items list) (sym (length-map term_of c.args.goal.now)) none) in
+    search (rules, unmet)

@@ -1,8 +1,5 @@
-use Rattle.std.proofs.Common.{rules, ℕ, ◌≡◌, ◌<◌, ◌^◌, ◌⊎◌, ◌↔◌, length, map, replicate, Contains, OnOk, IfOk, IfSome, IfNone, Some, ◌+◌, ◌-◌, ◌*◌, ◌≤◌, ◌/◌, ◌%◌, Bool, true, false, nat_eq, nat_lt, List, [], ◌∷◌, ◌++◌, slice_index_or, slice_set, bit_and, bit_or, Fits, w8, w32, w64, Bor, MutBor}
-use Rattle.role_order.specs.Lists.{Each}
-use Rattle.arbac_policy.specs.Truth.{term_of, IsKnown}
-use Rattle.arbac_policy.specs.Goals.{GoalMet}
-use Rattle.plan_replay.specs.GoalLists.{AreLeast, ArePairs, IsMetBy}
+use Rattle.std.proofs.Common.{◌≡◌, length, map, Some, ◌≤◌}
+use Rattle.arbac_policy.specs.Truth.{term_of}
 use Rattle.std.proofs.Common.{sym, ap, subst, ◌∙◌}
 use Rattle.std.specs.Prelude.{slice_get}
 use Rattle.role_order.proofs.ListLemmas.{get_at}

@@ -1,9 +1,7 @@
-use Rattle.std.proofs.Common.{rules, ℕ, ◌≡◌, ◌<◌, ◌^◌, ◌⊎◌, ◌↔◌, length, map, replicate, Contains, OnOk, IfOk, IfSome, IfNone, Some, ◌+◌, ◌-◌, ◌*◌, ◌≤◌, ◌/◌, ◌%◌, Bool, true, false, nat_eq, nat_lt, List, [], ◌∷◌, ◌++◌, slice_index_or, slice_set, bit_and, bit_or, Fits, w8, w32, w64, Bor, MutBor}
-use Rattle.role_order.specs.Lists.{Each}
-use Rattle.arbac_policy.specs.Truth.{term_of, IsKnown}
-use Rattle.arbac_policy.specs.Goals.{GoalMet}
-use Rattle.plan_replay.specs.GoalLists.{AreLeast, ArePairs, IsMetBy}
-use Rattle.std.proofs.Common.{subst, sym, ap, ◌∙◌, eqb}
+use Rattle.std.proofs.Common.{◌≡◌, Some, true, false}
+use Rattle.arbac_policy.specs.Truth.{term_of}
+use Rattle.plan_replay.specs.GoalLists.{IsMetBy}
+use Rattle.std.proofs.Common.{subst, sym, ap, ◌∙◌}
 use Rattle.plan_replay.proofs.goals.put_pairs.Goals.{then-holds+in_ok-push, else-holds}
 use Rattle.arbac_policy.specs.Truth.{Satisfies, user}
 use Rattle.std.specs.Prelude.{slice_get}

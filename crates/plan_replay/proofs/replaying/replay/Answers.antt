@@ -1,12 +1,11 @@
-use Rattle.std.proofs.Common.{ℕ, ◌≡◌, ◌∙◌, ◌<◌, List, take, sym, ap, arith, length, Some}
-use Rattle.std.specs.Prelude.{slice_get, slice_set}
+use Rattle.std.proofs.Common.{◌∙◌, arith}
+use Rattle.std.proofs.lemmas.Grind.{common_steps}
 use Rattle.role_order.proofs.ListLemmas.{get_at}
-use Rattle.arbac_policy.specs.declared.act.ActKind.TheVariants.{Assign}
 use Rattle.plan_replay.proofs.RunLemmas.{run_taken, no_run, length-slice_set}
 use Rattle.plan_replay.proofs.replaying.replay.Goals as goal
 
 pub index_mut-requires : goal.index_mut-requires
-index_mut-requires c = omega (arith, c.in-Granted.ensures.inside, c.loop-place.users.ok.0, ap length c.deref.ensures.value)
+index_mut-requires c = grind (arith, common_steps, c.in-Granted.ensures.inside, c.loop-place.users.ok.0, c.loop-place.invariant.long)
 
 pub returns-in-Denied-clause-stopped : goal.returns-in-Denied-clause-stopped
 returns-in-Denied-clause-stopped c = record {

@@ -1,4 +1,4 @@
-use Rattle.std.proofs.Common.{ℕ, List, refl}
+use Rattle.std.proofs.Common.{refl}
 use Rattle.arbac_policy.specs.Truth.{user}
 use Rattle.ura_core.proofs.AnswerLemmas.{denied_weaker}
 use Rattle.ura_core.proofs.DenialLemmas.{kind_denied_no}

@@ -1,8 +1,5 @@
-use Rattle.std.proofs.Common.{ℕ, ◌≡◌, ◌∙◌, List, sym, ap, subst, inl, inr}
-use Rattle.std.specs.Prelude.{slice_get, slice_set, Some}
-use Rattle.arbac_policy.specs.declared.act.ActKind.TheVariants.{Assign, Weak, Strong}
-use Rattle.arbac_policy.specs.Holders.{falling}
-use Rattle.arbac_policy.specs.Steps.{KindStep, StrongStep, WeakSteps}
+use Rattle.std.proofs.Common.{sym, ap}
+use Rattle.std.specs.Prelude.{slice_set}
 use Rattle.ura_core.proofs.AnswerLemmas.{granted_weaker, granted_always}
 use Rattle.role_order.proofs.ListLemmas.{get_within}
 use Rattle.ura_core.proofs.decision.decide_on.Goals as goal

@@ -1,4 +1,4 @@
-use Rattle.std.proofs.Common.{◌≡◌, ◌∙◌, sym, refl, inl, inr}
+use Rattle.std.proofs.Common.{◌∙◌, sym}
 use Rattle.std.proofs.lemmas.Bool.{false≢true}
 use Rattle.ura_core.proofs.MemberLemmas.{member_more, member_by, member_split}
 use Rattle.ura_core.proofs.searching.joins.Goals as goal

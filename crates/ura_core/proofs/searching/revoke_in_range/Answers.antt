@@ -1,5 +1,4 @@
-use Rattle.std.proofs.Common.{ℕ, ◌≡◌, ◌∙◌, ◌<◌, ap, sym, arith, length, Some, subst, List, true, false, get_or}
-use Rattle.std.specs.Prelude.{slice_get}
+use Rattle.std.proofs.Common.{◌∙◌, sym, arith, subst, get_or}
 use Rattle.std.proofs.lemmas.Bool.{false≢true}
 use Rattle.role_order.specs.Lists.{Some_of, IsFirst}
 use Rattle.role_order.proofs.ListLemmas.{get_at, get_within, below_more, some_none}

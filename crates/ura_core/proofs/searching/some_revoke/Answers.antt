@@ -1,4 +1,4 @@
-use Rattle.std.proofs.Common.{ℕ, ◌≡◌, ◌∙◌, ◌<◌, ap, sym, arith, length, Some, refl, subst, List, true, false, get_or}
+use Rattle.std.proofs.Common.{◌≡◌, ◌∙◌, sym, arith, Some, refl, subst, get_or}
 use Rattle.std.specs.Prelude.{slice_get}
 use Rattle.std.proofs.lemmas.Bool.{false≢true}
 use Rattle.role_order.specs.Lists.{Some_of}

@@ -1,8 +1,6 @@
-use Rattle.std.proofs.Common.{ℕ, ◌≡◌, ◌∙◌, ◌<◌, ◌++◌, ◌∷◌, [], List, sym, ap, subst, arith, true, false, inl, inr, length}
-use Rattle.std.specs.Prelude.{filter, nat_lt, slice_set, slice_get, Some}
+use Rattle.std.proofs.Common.{ℕ, ◌≡◌, ◌∙◌, ◌<◌, sym, subst, arith, true, false}
+use Rattle.std.specs.Prelude.{filter, nat_lt, slice_set}
 use Rattle.role_order.specs.Roles.{IsIn, has_role}
-use Rattle.arbac_policy.specs.Truth.{Holder}
-use Rattle.arbac_policy.specs.Holders.{falling as falling_of}
 use Rattle.arbac_policy.specs.Steps.{WeakSteps}
 use Rattle.arbac_policy.specs.Verdicts.{WeaksDenied}
 use Rattle.ura_core.proofs.StepLemmas.{below_next, below_same, below_all, below_none, split_at, weak_steps_more, weaks_denied_at, set_same}

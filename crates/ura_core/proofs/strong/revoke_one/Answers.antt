@@ -1,16 +1,20 @@
-use Rattle.std.proofs.Common.{◌≡◌, ◌∙◌, sym, ap, inl, inr}
-use Rattle.std.specs.Prelude.{slice_get, slice_set, Some}
+use Rattle.std.proofs.Common.{ℕ, ◌∙◌, List, sym, ap, inr, rules}
+use Rattle.arbac_policy.specs.Holders.{admins_of}
+use Rattle.arbac_policy.specs.Verdicts.{WeakDenied}
+use Rattle.std.specs.Prelude.{slice_set}
 use Rattle.ura_core.proofs.StepLemmas.{get_set_here, set_twice}
 use Rattle.ura_core.proofs.strong.revoke_one.Goals as goal
 
 pub returns-in-Some-against_revoke-clause-denied : goal.returns-in-Some-against_revoke-clause-denied
-returns-in-Some-against_revoke-clause-denied c = inr (
-  c.in-Some.by,
-  c.args.left.now,
-  sym c.in-Some.ensures,
-  get_set_here c.args.list.now c.args.act.now.target c.args.left.now c.requires,
-  c.in-Some-against_revoke.ensures.some,
-)
+returns-in-Some-against_revoke-clause-denied c =
+    let state : List (List ℕ) = slice_set c.args.list.now c.args.act.now.target c.args.left.now in
+    let denied : WeakDenied c.args.on c.args.policy.now (admins_of c.args.on c.args.users.now state) state c.args.act.now.admin c.args.act.now.target c.args.role c.in-Some-against_revoke.part = inr (
+      c.in-Some.by,
+      c.args.left.now,
+      sym c.in-Some.ensures,
+      get_set_here c.args.list.now c.args.act.now.target c.args.left.now c.requires,
+      c.in-Some-against_revoke.ensures.some,
+    ) in search (rules, denied)
 
 pub returns-in-None-clause-granted : goal.returns-in-None-clause-granted
 returns-in-None-clause-granted c = record {
