@@ -1,1 +1,6 @@
 pub mod Draws
+pub mod Groups
+pub mod Members
+pub mod Reader
+pub mod Rows
+pub mod Tallies

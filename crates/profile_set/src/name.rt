@@ -1,7 +1,6 @@
 //! Names: short texts of letters, digits and three signs.
 
 ghost use Rattle.std.specs.Prelude.{◌≡◌, true, false, IfSome, IfNone, IfOk};
-ghost use Rattle.std.specs.List.{list_all};
 ghost use Rattle.std.specs.Str.{bytes_eq};
 ghost use Rattle.std.specs.Cmp.{partial_order_from_own_ties};
 ghost use Rattle.std.specs.Cmp.Rules.{comparing};
@@ -9,13 +8,14 @@ ghost use Rattle.std.specs.Ordering.{nat_cmp, as_partial_cmp};
 ghost use Rattle.std.specs.Cmp.Lexicographic.{slice_cmp};
 ghost use Rattle.std.proofs.lemmas.Cmp.{nat_list_cmp_total};
 ghost use Rattle.std.proofs.Common.{rules};
-ghost use Rattle.role_order.specs.Names.{is_name as name, is_name_byte as is_byte};
+ghost use Rattle.role_order.specs.Names.{is_name as name};
 
+use role_order::is_name;
 use std::alloc::{AllocError, Global};
 use std::cmp::Ordering;
 use std::marker::Model;
 
-/// A text of 1 to 64 bytes of `A-Z a-z 0-9 _ . -`, which contracts see as its bytes.
+/// A text of 1 to `MOST_NAME_BYTES` bytes of `A-Z a-z 0-9 _ . -`, which contracts see as its bytes.
 #[derive(Drop)]
 pub struct Name {
     text: String,
@@ -31,26 +31,6 @@ impl Model for Name {
     ghost view = { λ n. string_bytes n.text };
 
     ghost invariant = { λ n. is_name (string_bytes n.text) ≡ true };
-}
-
-fn is_name_byte(b: u8) -> bool
-    ensures { result ≡ is_byte b }
-{
-    matches!(b, b'A'..=b'Z' | b'a'..=b'z' | b'0'..=b'9' | b'_' | b'.' | b'-')
-}
-
-fn are_name_bytes(bytes: &[u8]) -> bool
-    ensures { result ≡ list_all is_byte bytes.now }
-{
-    bytes.iter().all(|b| is_name_byte(*b))
-}
-
-#[tactic(auto, unfolding(role_order::specs::Names::is_name))]
-fn is_name(text: &str) -> bool
-    ensures { result ≡ name text.now }
-{
-    let bytes = text.as_bytes();
-    1 <= bytes.len() && bytes.len() <= 64 && are_name_bytes(bytes)
 }
 
 impl Name {

@@ -1,0 +1,11 @@
+use Rattle.profile_set.proofs.SoleLemmas.{only_of, told_of, one_list}
+use Rattle.profile_set.proofs.members.read_members.Goals as goal
+
+pub returns-clause-only : goal.returns-clause-only
+returns-clause-only c = only_of c.args.order.now.names c.args.bytes.now c.read.result c.read.ensures.rows c.read.ensures.fault
+
+pub returns-clause-told : goal.returns-clause-told
+returns-clause-told c = told_of c.args.order.now.names c.args.bytes.now c.read.result c.read.ensures.rows c.read.ensures.fault
+
+pub returns-clause-one : goal.returns-clause-one
+returns-clause-one c = one_list c.args.order.now.names c.args.bytes.now
