@@ -14,6 +14,7 @@ pub use arbac_policy::{
 pub use cond_text::{CondError, MOST_OPEN, MOST_TERMS, parse_cond, print_cond};
 pub use conjunct::Conjunct;
 pub use listing::{WideError, conjuncts};
+pub use width::width_of;
 
 /// The greatest number of conjuncts of a condition that are listed.
 pub const MOST_CONJUNCTS: usize = 1_024;

@@ -1,0 +1,25 @@
+use Rattle.std.proofs.Common.{◌∙◌}
+use Rattle.std.specs.Prelude.{codes}
+use Rattle.question_text.specs.Keys.{entries, list_of}
+use Rattle.question_text.specs.Roles.{a_pair}
+use Rattle.question_text.specs.Answers.{fault_of}
+use Rattle.toml.specs.View.{array_view}
+use Rattle.question_text.proofs.OutcomeLemmas.{answers_exit}
+use Rattle.question_text.proofs.KeyLemmas.{stops_at, goes_past, ends_at}
+use Rattle.question_text.proofs.roles.each_pair.Goals as goal
+
+pub returns-in_err-pair : goal.returns-in_err-pair
+returns-in_err-pair c =
+    answers_exit (λ pairs. pairs.items) (entries (a_pair c.args.order.now.names) (codes "exclusive") (list_of (array_view c.args.list.now))) c.in_err-pair.field-0.0 c.from_residual-in_err-pair.result c.from_residual-in_err-pair.ensures.1
+    (stops_at (a_pair c.args.order.now.names) (codes "exclusive") c.args.list.now.items c.deref-value-items.result.now c.loop-place.place c.value-item.result c.as_str.result.now c.loop-place.pairs.items (fault_of c.in_err-pair.field-0.0)
+    c.deref-value-items.ensures.value c.loop-place-test.true c.value-item.is (c.as_str.ensures.value ∙ c.in_ok-at.ensures) c.loop-place.invariant c.in_err-pair.ensures)
+
+pub loop-place-preserved : goal.loop-place-preserved
+loop-place-preserved c =
+    rw c.in_ok-push.ensures.items
+    (goes_past (a_pair c.args.order.now.names) (codes "exclusive") c.args.list.now.items c.deref-value-items.result.now c.loop-place.place c.value-item.result c.as_str.result.now c.loop-place.pairs.items c.in_ok-pair.pair
+    c.deref-value-items.ensures.value c.loop-place-test.true c.value-item.is (c.as_str.ensures.value ∙ c.in_ok-at.ensures) c.loop-place.invariant c.in_ok-pair.ensures)
+
+pub returns : goal.returns
+returns c =
+    ends_at (a_pair c.args.order.now.names) (codes "exclusive") c.args.list.now.items c.deref-value-items.result.now c.loop-place.place c.loop-place.pairs.items c.deref-value-items.ensures.value c.loop-place-test.false c.loop-place.invariant

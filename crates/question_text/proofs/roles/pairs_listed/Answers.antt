@@ -1,0 +1,36 @@
+use Rattle.std.specs.Prelude.{codes}
+use Rattle.toml.specs.View.{table_view, array_view}
+use Rattle.question_text.specs.declared.TheConstants.{MOST_PAIRS}
+use Rattle.question_text.specs.Keys.{list_of}
+use Rattle.question_text.specs.Roles.{a_pair}
+use Rattle.question_text.specs.Answers.{fault_of}
+use Rattle.question_text.proofs.OutcomeLemmas.{answers_exit}
+use Rattle.question_text.proofs.RoleLemmas.{listed_roles, many_told, entry_told, mixed_told, all_listed, none_listed}
+use Rattle.question_text.proofs.roles.pairs_listed.Goals as goal
+
+pub returns-in_default : goal.returns-in_default
+returns-in_default c =
+    rw c.new.ensures.items (none_listed MOST_PAIRS (a_pair c.args.order.now.names) c.args.separate c.args.admins.now (codes "exclusive") (table_view c.args.table.now) (rw c.in_default.is at c.in_ok-list.ensures))
+
+pub returns-in_err-at_most : goal.returns-in_err-at_most
+returns-in_err-at_most c =
+    let listed = listed_roles MOST_PAIRS (a_pair c.args.order.now.names) c.args.separate c.args.admins.now (codes "exclusive") (table_view c.args.table.now) in
+    answers_exit (λ pairs. pairs.items) listed c.in_err-at_most.field-0.0 c.from_residual-in_err-at_most.result c.from_residual-in_err-at_most.ensures.1
+    (many_told MOST_PAIRS (a_pair c.args.order.now.names) c.args.separate c.args.admins.now (codes "exclusive") (table_view c.args.table.now) (list_of (array_view c.in-Some.list.now)) (fault_of c.in_err-at_most.field-0.0) (rw c.in-Some.is at c.in_ok-list.ensures) c.in_err-at_most.ensures)
+
+pub returns-in_err-pairs : goal.returns-in_err-pairs
+returns-in_err-pairs c =
+    let listed = listed_roles MOST_PAIRS (a_pair c.args.order.now.names) c.args.separate c.args.admins.now (codes "exclusive") (table_view c.args.table.now) in
+    answers_exit (λ pairs. pairs.items) listed c.in_err-pairs.field-0.0 c.from_residual-in_err-pairs.result c.from_residual-in_err-pairs.ensures.1
+    (entry_told MOST_PAIRS (a_pair c.args.order.now.names) c.args.separate c.args.admins.now (codes "exclusive") (table_view c.args.table.now) (list_of (array_view c.in-Some.list.now)) (fault_of c.in_err-pairs.field-0.0) (rw c.in-Some.is at c.in_ok-list.ensures) c.in_ok-at_most.ensures c.in_err-pairs.ensures)
+
+pub returns-in_err-not_mixed : goal.returns-in_err-not_mixed
+returns-in_err-not_mixed c =
+    let listed = listed_roles MOST_PAIRS (a_pair c.args.order.now.names) c.args.separate c.args.admins.now (codes "exclusive") (table_view c.args.table.now) in
+    answers_exit (λ pairs. pairs.items) listed c.in_err-not_mixed.field-0.0 c.from_residual-in_err-not_mixed.result c.from_residual-in_err-not_mixed.ensures.1
+    (mixed_told MOST_PAIRS (a_pair c.args.order.now.names) c.args.separate c.args.admins.now (codes "exclusive") (table_view c.args.table.now) (list_of (array_view c.in-Some.list.now)) c.in_ok-pairs.pairs.items (fault_of c.in_err-not_mixed.field-0.0) (rw c.in-Some.is at c.in_ok-list.ensures) c.in_ok-at_most.ensures c.in_ok-pairs.ensures (rw c.as_slice.ensures.value at c.in_err-not_mixed.ensures))
+
+pub returns : goal.returns
+returns c =
+    all_listed MOST_PAIRS (a_pair c.args.order.now.names) c.args.separate c.args.admins.now (codes "exclusive") (table_view c.args.table.now) (list_of (array_view c.in-Some.list.now)) c.in_ok-pairs.pairs.items
+    (rw c.in-Some.is at c.in_ok-list.ensures) c.in_ok-at_most.ensures c.in_ok-pairs.ensures (rw c.as_slice.ensures.value at c.in_ok-not_mixed.ensures)

@@ -1,0 +1,161 @@
+-- The tables of a document: administrative rules and profiles, and its goal.
+use Rattle.std.specs.Prelude.{ℕ, ◌≡◌, ◌*◌, Bool, true, false, not, ◌||◌, ◌&&◌, nat_lt, List, [], ◌∷◌, Option, Some, None, codes, Ok, Err, ◌⊎◌}
+use Rattle.toml.specs.Data.{Data, Members, get_member, as_str, as_table}
+use Rattle.role_order.specs.declared.range.Range.{Range}
+use Rattle.role_order.specs.Roles.{has_role}
+use Rattle.arbac_policy.specs.declared.rule.CanRevoke.{CanRevoke}
+use Rattle.arbac_policy.specs.declared.profile.Profile.{Profile}
+use Rattle.arbac_policy.specs.Truth.{Term, any, has, lacks, both, either}
+use Rattle.cond_text.specs.declared.cond_error.CondError.{CondError}
+use Rattle.cond_text.specs.Reading.{IsFirstOf}
+use Rattle.policy_text.specs.declared.TheConstants.{MOST_RULES, MOST_GOALS}
+use Rattle.policy_text.specs.Shapes.{NamedRange, IsNamedRange, spell_range}
+use Rattle.policy_text.specs.Runs.{AssignRule, Says}
+use Rattle.arbac_rules.specs.declared.TheConstants.{MOST_CONJUNCTS}
+use Rattle.arbac_rules.specs.Widths.{width}
+use Rattle.question_text.specs.declared.TheConstants.{MOST_PROFILES}
+use Rattle.question_text.specs.Outcomes.{missing, wrong_kind, no_cond, mixed_role, too_wide, Outcome, gives, fails, fails_if, ◌>>=◌}
+use Rattle.question_text.specs.Keys.{as_list, as_filled_list, as_most, of_kind, required, optional, knows_only, at_most, entries, key_of}
+use Rattle.question_text.specs.Roles.{role_named, role_set}
+
+-- the text is a condition and stands for the term, or has this first fault
+abbrev pub a_condition : List (List ℕ) → List ℕ → List ℕ → Outcome Term
+a_condition names path text result =
+    ((term : Term) × Says names text term × (result ≡ Ok term))
+    ⊎ ((error : CondError) × IsFirstOf names text error × (result ≡ Err (no_cond path error)))
+
+-- the text is a range between two names, or of the wrong kind
+abbrev pub a_named_range : List ℕ → List ℕ → Outcome NamedRange
+a_named_range path text result =
+    ((range : NamedRange) × IsNamedRange range × (spell_range range ≡ text) × (result ≡ Ok range))
+    ⊎ (((range : NamedRange) → IsNamedRange range → ¬ (spell_range range ≡ text)) × (result ≡ Err (wrong_kind path)))
+
+-- the text is a range between two roles
+abbrev pub a_range : List (List ℕ) → List ℕ → List ℕ → Outcome Range
+a_range names path text = do
+  range ← a_named_range path text
+  low ← role_named names path range.low
+  high ← role_named names path range.high
+  gives (record { low = low; high = high; low_open = range.low_open; high_open = range.high_open })
+
+-- the value of `admin`: the administrative role
+abbrev pub the_admin : List (List ℕ) → Members → List ℕ → Outcome ℕ
+the_admin names rule path = do
+  name ← required as_str rule path (codes "admin")
+  role_named names (key_of path (codes "admin")) name
+
+abbrev pub the_condition : List (List ℕ) → Members → List ℕ → Outcome Term
+the_condition names rule path = do
+  text ← required as_str rule path (codes "condition")
+  a_condition names (key_of path (codes "condition")) text
+
+abbrev pub the_range : List (List ℕ) → Members → List ℕ → Outcome Range
+the_range names rule path = do
+  text ← required as_str rule path (codes "range")
+  a_range names (key_of path (codes "range")) text
+
+-- the test holds of some role that a term names
+abbrev pub names_some : (ℕ → Bool) → Term → Bool
+names_some test any = false
+names_some test (has role) = test role
+names_some test (lacks role) = test role
+names_some test (both left right) = names_some test left || names_some test right
+names_some test (either left right) = names_some test left || names_some test right
+
+-- the role that administers isn't administrative, or an end of the range is
+abbrev pub is_mixed_rule : List ℕ → ℕ → Range → Bool
+is_mixed_rule admins admin range = not (has_role admins admin) || has_role admins range.low || has_role admins range.high
+
+-- a condition names an administrative role
+abbrev pub names_admin : List ℕ → Option Term → Bool
+names_admin admins None = false
+names_admin admins (Some cond) = names_some (has_role admins) cond
+
+-- where administrative roles are kept separate, the rule isn't mixed
+abbrev pub not_mixed_rule : Bool → List ℕ → ℕ → Range → Option Term → List ℕ → Outcome (Unit {0})
+not_mixed_rule separate admins admin range cond path =
+    fails_if (separate && (is_mixed_rule admins admin range || names_admin admins cond)) (mixed_role path)
+
+-- the condition hasn't too many conjuncts
+abbrev pub not_wide : Term → List ℕ → Outcome (Unit {0})
+not_wide cond path = fails_if (nat_lt MOST_CONJUNCTS (width cond)) (too_wide path (width cond))
+
+-- a rule of `can_assign` or `can_assignp`
+abbrev pub an_assign_rule : Bool → List ℕ → List (List ℕ) → List ℕ → Data → Outcome AssignRule
+an_assign_rule separate admins names path d = do
+  rule ← of_kind (as_table d) path
+  known ← knows_only (codes "admin" ∷ (codes "condition" ∷ (codes "range" ∷ []))) rule path
+  admin ← the_admin names rule path
+  cond ← the_condition names rule path
+  range ← the_range names rule path
+  narrow ← not_wide cond path
+  apart ← not_mixed_rule separate admins admin range (Some cond) path
+  gives (record { admin = admin; cond = cond; range = range })
+
+-- a rule of `can_revoke` or `can_revokep`
+abbrev pub a_revoke_rule : Bool → List ℕ → List (List ℕ) → List ℕ → Data → Outcome CanRevoke
+a_revoke_rule separate admins names path d = do
+  rule ← of_kind (as_table d) path
+  known ← knows_only (codes "admin" ∷ (codes "range" ∷ [])) rule path
+  admin ← the_admin names rule path
+  range ← the_range names rule path
+  apart ← not_mixed_rule separate admins admin range None path
+  gives (record { admin = admin; range = range })
+
+-- a list of tables under a key, each read alike
+abbrev pub tables : {A : Type 0} → ℕ → (List ℕ → Data → Outcome A) → Members → List ℕ → Outcome (List A)
+tables most read table key = do
+  list ← optional as_list [] table [] key
+  few ← at_most most key list
+  entries read key list
+
+abbrev pub assign_rules : Bool → List ℕ → List (List ℕ) → Members → List ℕ → Outcome (List AssignRule)
+assign_rules separate admins names table key = tables MOST_RULES (an_assign_rule separate admins names) table key
+
+abbrev pub revoke_rules : Bool → List ℕ → List (List ℕ) → Members → List ℕ → Outcome (List CanRevoke)
+revoke_rules separate admins names table key = tables MOST_RULES (a_revoke_rule separate admins names) table key
+
+-- a profile: an explicit set, and how many users at most start with it
+abbrev pub a_profile : List (List ℕ) → List ℕ → Data → Outcome Profile
+a_profile names path d = do
+  profile ← of_kind (as_table d) path
+  known ← knows_only (codes "roles" ∷ (codes "most" ∷ [])) profile path
+  list ← required as_list profile path (codes "roles")
+  set ← role_set names (key_of path (codes "roles")) list
+  most ← optional as_most None profile path (codes "most")
+  gives (record { set = set; most = most })
+
+abbrev pub profiles : List (List ℕ) → Members → Outcome (List Profile)
+profiles names table = tables MOST_PROFILES (a_profile names) table (codes "profile")
+
+-- a text that is a condition
+abbrev pub a_goal_condition : List (List ℕ) → List ℕ → Data → Outcome Term
+a_goal_condition names path d = do
+  text ← of_kind (as_str d) path
+  a_condition names path text
+
+-- of so many combinations, those with one conjunct of each condition are not too many;
+-- the count that is told goes up to the first condition at which they are
+abbrev pub not_wide_goal : ℕ → List Term → Outcome (Unit {0})
+not_wide_goal combinations [] = gives tt
+not_wide_goal combinations (cond ∷ conds) = do
+  narrow ← fails_if (nat_lt MOST_CONJUNCTS (combinations * width cond)) (too_wide (codes "goal") (combinations * width cond))
+  not_wide_goal (combinations * width cond) conds
+
+-- the conditions of a goal that is there
+abbrev pub a_goal : List (List ℕ) → Data → Outcome (List Term)
+a_goal names d = do
+  list ← of_kind (as_filled_list d) (codes "goal")
+  few ← at_most MOST_GOALS (codes "goal") list
+  conds ← entries (a_goal_condition names) (codes "goal") list
+  narrow ← not_wide_goal 1 conds
+  gives conds
+
+abbrev pub may_be_goal : Bool → List (List ℕ) → Option Data → Outcome (List Term)
+may_be_goal true names None = fails (missing (codes "goal"))
+may_be_goal false names None = gives []
+may_be_goal need_goal names (Some d) = a_goal names d
+
+-- `goal`: it must be there where one is needed, and one that is there is read in any case
+abbrev pub the_goal : Bool → List (List ℕ) → Members → Outcome (List Term)
+the_goal need_goal names table = may_be_goal need_goal names (get_member (codes "goal") table)

@@ -1,0 +1,108 @@
+-- The text that is written for a question; each line ends in LF (10).
+use Rattle.std.specs.Prelude.{ℕ, Bool, if◌then◌else◌, List, [], ◌∷◌, ◌++◌, Option, Some, None, codes, get_or}
+use Rattle.std.specs.Fmt.{decimal}
+use Rattle.std.specs.List.{flat_map, join_by}
+use Rattle.role_order.specs.declared.range.Range.{Range}
+use Rattle.arbac_policy.specs.declared.rule.CanRevoke.{CanRevoke}
+use Rattle.arbac_policy.specs.declared.profile.Profile.{Profile}
+use Rattle.arbac_policy.specs.Truth.{Term}
+use Rattle.cond_text.specs.Printing.{text_of}
+use Rattle.policy_text.specs.Shapes.{NamedRange, spell_range}
+use Rattle.policy_text.specs.Runs.{AssignRule}
+use Rattle.question_text.specs.Values.{QuestionValue}
+
+-- `key = value`
+abbrev pub line : List ℕ → List ℕ → List ℕ
+line key value = key ++ (codes " = " ++ (value ++ (10 ∷ [])))
+
+-- `[[key]]`
+abbrev pub header : List ℕ → List ℕ
+header key = codes "[[" ++ (key ++ codes "]]\n")
+
+-- `"text"`
+abbrev pub quoted : List ℕ → List ℕ
+quoted text = 34 ∷ (text ++ (34 ∷ []))
+
+-- `[first, second]`, each item by its text
+abbrev pub listed : {A : Type 0} → (A → List ℕ) → List A → List ℕ
+listed item items = codes "[" ++ (join_by item (codes ", ") items ++ codes "]")
+
+abbrev pub role_text : List (List ℕ) → ℕ → List ℕ
+role_text names role = quoted (get_or names role [])
+
+-- `["PL1", "PE1"]`
+abbrev pub pair_text : List (List ℕ) → ℕ × ℕ → List ℕ
+pair_text names pair = listed (role_text names) (pair.0 ∷ pair.1 ∷ [])
+
+abbrev pub condition_text : List (List ℕ) → Term → List ℕ
+condition_text names cond = quoted (text_of names cond)
+
+-- the range with the names of its ends
+abbrev pub named : List (List ℕ) → Range → NamedRange
+named names range = record { low = get_or names range.low []; high = get_or names range.high []; low_open = range.low_open; high_open = range.high_open }
+
+abbrev pub range_text : List (List ℕ) → Range → List ℕ
+range_text names range = quoted (spell_range (named names range))
+
+abbrev pub truth_text : Bool → List ℕ
+truth_text value = if value then codes "true" else codes "false"
+
+abbrev pub most_text : Option ℕ → List ℕ
+most_text None = quoted (codes "any")
+most_text (Some most) = decimal most
+
+-- the second version where there is a pair
+abbrev pub version_text : List (ℕ × ℕ) → List ℕ
+version_text [] = codes "1"
+version_text (pair ∷ pairs) = codes "2"
+
+abbrev pub exclusive_text : List (List ℕ) → List (ℕ × ℕ) → List ℕ
+exclusive_text names [] = []
+exclusive_text names (pair ∷ pairs) = line (codes "exclusive") (listed (pair_text names) (pair ∷ pairs))
+
+abbrev pub goal_text : List (List ℕ) → List Term → List ℕ
+goal_text names [] = []
+goal_text names (cond ∷ conds) = line (codes "goal") (listed (condition_text names) (cond ∷ conds))
+
+abbrev pub assign_text : List ℕ → List (List ℕ) → AssignRule → List ℕ
+assign_text key names rule =
+    header key
+    ++ (line (codes "admin") (role_text names rule.admin)
+    ++ (line (codes "condition") (condition_text names rule.cond)
+    ++ line (codes "range") (range_text names rule.range)))
+
+abbrev pub revoke_text : List ℕ → List (List ℕ) → CanRevoke → List ℕ
+revoke_text key names rule =
+    header key
+    ++ (line (codes "admin") (role_text names rule.admin)
+    ++ line (codes "range") (range_text names rule.range))
+
+abbrev pub profile_text : List (List ℕ) → Profile → List ℕ
+profile_text names profile =
+    header (codes "profile")
+    ++ (line (codes "roles") (listed (role_text names) profile.set)
+    ++ line (codes "most") (most_text profile.most))
+
+-- the keys one after another
+unfoldable pub keys_text : QuestionValue → List ℕ
+keys_text q =
+    line (codes "version") (version_text q.exclusive)
+    ++ (line (codes "separate") (truth_text q.separate)
+    ++ (line (codes "roles") (listed quoted q.names)
+    ++ (line (codes "admin_roles") (listed (role_text q.names) q.admin_roles)
+    ++ (line (codes "edges") (listed (pair_text q.names) q.edges)
+    ++ (exclusive_text q.names q.exclusive
+    ++ goal_text q.names q.goal)))))
+
+-- the tables one after another
+unfoldable pub tables_text : QuestionValue → List ℕ
+tables_text q =
+    flat_map (assign_text (codes "can_assign") q.names) q.assign
+    ++ (flat_map (revoke_text (codes "can_revoke") q.names) q.revoke
+    ++ (flat_map (assign_text (codes "can_assignp") q.names) q.assignp
+    ++ (flat_map (revoke_text (codes "can_revokep") q.names) q.revokep
+    ++ flat_map (profile_text q.names) q.profiles)))
+
+-- the text of the question
+abbrev pub question_text : QuestionValue → List ℕ
+question_text q = keys_text q ++ tables_text q

@@ -1,0 +1,103 @@
+//! The goal of a document.
+
+ghost use Rattle.std.specs.Prelude.{◌≤◌, IfOk, codes, length, map};
+ghost use Rattle.toml.specs.View.{table_view, array_view, view};
+ghost use Rattle.role_order.specs.Lists.{Each};
+ghost use Rattle.arbac_policy.specs.Truth.{term_of};
+ghost use Rattle.cond_text.specs.Grammar.{term_count};
+ghost use Rattle.question_text.specs.Keys.{list_of, entries};
+ghost use Rattle.question_text.specs.Rules.{IsCondition};
+ghost use Rattle.question_text.specs.Tables.{a_goal_condition, not_wide_goal, a_goal, the_goal as goal_of};
+ghost use Rattle.question_text.specs.Answers.{Answers};
+
+use crate::keys::{at_most, entry_path, filled_list, of_kind, value_at};
+use crate::question_error::QuestionError;
+use crate::rules::the_condition;
+use arbac_policy::Cond;
+use arbac_rules::{MOST_CONJUNCTS, width_of};
+use cond_text::MOST_TERMS;
+use policy_text::MOST_GOALS;
+use role_order::Order;
+use std::alloc::Global;
+use toml::value::Array;
+use toml::{Table, Value};
+
+/// The condition that the text at the path is.
+fn condition_of(
+    alloc: Global,
+    order: &Order,
+    path: &str,
+    value: &Value,
+) -> Result<Cond, QuestionError>
+    ensures { Answers term_of (a_goal_condition order.now.names path.now (view value.now)) result }
+{
+    let text = of_kind(alloc, value.as_str(), path)?;
+    the_condition(alloc, order, path, text)
+}
+
+fn each_condition(alloc: Global, order: &Order, list: &Array) -> Result<Vec<Cond>, QuestionError>
+    ensures conditions { Answers (λ conds. map term_of conds.items) (entries (a_goal_condition order.now.names) (codes "goal") (list_of (array_view list.now))) result }
+    ensures few { IfOk result (λ conds. Each (λ cond. term_count (term_of cond) ≤ MOST_TERMS) conds.items) }
+{
+    let mut conds = Vec::new(alloc);
+    for (place, value) in list.iter().enumerate() {
+        let at = entry_path(alloc, "goal", place)?;
+        let cond = condition_of(alloc, order, at.as_str(), value)?;
+        conds.push(cond)?;
+    }
+    Ok(conds)
+}
+
+/// Refuses conditions with too many combinations of one conjunct of each. The count goes up to the
+/// first condition at which they are too many.
+fn not_wide(alloc: Global, conds: &[Cond]) -> Result<(), QuestionError>
+    requires { Each (λ cond. term_count (term_of cond) ≤ MOST_TERMS) conds.now }
+    ensures { Answers (λ _. tt) (not_wide_goal 1 (map term_of conds.now)) result }
+{
+    let mut combinations = 1;
+    for cond in conds {
+        combinations *= width_of(cond);
+        if combinations > MOST_CONJUNCTS as u128 {
+            return Err(QuestionError::TooWide {
+                key: String::from_str(alloc, "goal")?,
+                count: combinations,
+            });
+        }
+    }
+    Ok(())
+}
+
+/// The conditions of a goal that is there.
+fn goal_at(alloc: Global, order: &Order, value: &Value) -> Result<Vec<Cond>, QuestionError>
+    ensures { Answers (λ conds. map term_of conds.items) (a_goal order.now.names (view value.now)) result }
+{
+    let list = of_kind(alloc, filled_list(value), "goal")?;
+    at_most(alloc, MOST_GOALS, "goal", list)?;
+    let conds = each_condition(alloc, order, list)?;
+    not_wide(alloc, conds.as_slice())?;
+    Ok(conds)
+}
+
+/// The conditions of a document's goal, none where it is absent and none is needed.
+pub fn the_goal(
+    alloc: Global,
+    order: &Order,
+    need_goal: bool,
+    table: &Table,
+) -> Result<Vec<Cond>, QuestionError>
+    ensures goal { Answers (λ conds. map term_of conds.items) (goal_of need_goal order.now.names (table_view table.now)) result }
+    ensures kept { IfOk result (λ conds. Each (IsCondition (length order.now.names)) (map term_of conds.items)) }
+{
+    match value_at(table, "goal") {
+        Some(value) => goal_at(alloc, order, value),
+        None => {
+            if need_goal {
+                Err(QuestionError::Missing {
+                    key: String::from_str(alloc, "goal")?,
+                })
+            } else {
+                Ok(Vec::new(alloc))
+            }
+        }
+    }
+}

@@ -1,0 +1,331 @@
+//! Administrative rules.
+
+ghost use Rattle.std.specs.Prelude.{◌≡◌, ◌≤◌, ◌<◌, ◌+◌, None, Some, IfOk, length, map};
+ghost use Rattle.toml.specs.View.{table_view, array_view, view};
+ghost use Rattle.role_order.specs.Lists.{Each};
+ghost use Rattle.role_order.specs.Roles.{has_role};
+ghost use Rattle.arbac_policy.specs.Truth.{term_of, IsKnown};
+ghost use Rattle.arbac_policy.specs.Rules.{IsKnownRange, IsKnownAssign, IsKnownRevoke};
+ghost use Rattle.cond_text.specs.Grammar.{term_count};
+ghost use Rattle.policy_text.specs.Runs.{plain_rule};
+ghost use Rattle.question_text.specs.Outcomes.{fails_if, mixed_role};
+ghost use Rattle.question_text.specs.Keys.{list_of, entries};
+ghost use Rattle.question_text.specs.Tables.{a_condition, a_range, is_mixed_rule};
+ghost use Rattle.question_text.specs.Tables.{the_admin as admin_of, the_condition as condition_of, the_range as range_of, names_some as some_named, not_wide as narrow, not_mixed_rule};
+ghost use Rattle.question_text.specs.Tables.{an_assign_rule as assign_rule_of, a_revoke_rule as revoke_rule_of, assign_rules as assign_rules_of, revoke_rules as revoke_rules_of};
+ghost use Rattle.question_text.specs.Parts.{assign_parts as assign_parts_of, assign_tests as assign_tests_of, revoke_parts as revoke_parts_of};
+ghost use Rattle.question_text.specs.Answers.{Answers};
+
+use crate::keys::{
+    at_most, entry_path, key_path, knows_only, of_kind, optional_list, required_text,
+};
+use crate::question_error::QuestionError;
+use crate::roles::role_named;
+use arbac_policy::{CanAssign, CanRevoke, Cond};
+use arbac_rules::{MOST_CONJUNCTS, width_of};
+use cond_text::{CondError, MOST_TERMS, parse_cond};
+use policy_text::{MOST_RULES, read_range};
+use role_order::{Order, Range, RoleSet};
+use std::alloc::Global;
+use toml::value::Array;
+use toml::{Table, Value};
+
+/// The condition that the text at a path is.
+pub fn the_condition(
+    alloc: Global,
+    order: &Order,
+    path: &str,
+    text: &str,
+) -> Result<Cond, QuestionError>
+    ensures answers { Answers term_of (a_condition order.now.names path.now text.now) result }
+    ensures known { IfOk result (λ cond. IsKnown (length order.now.names) (term_of cond)) }
+    ensures few { IfOk result (λ cond. term_count (term_of cond) ≤ MOST_TERMS) }
+{
+    // Places in a condition are 32-bit numbers; no document is as long as that.
+    if text.len() > u32::MAX as usize {
+        return Err(QuestionError::Memory);
+    }
+    match parse_cond(alloc, order, text) {
+        Ok(cond) => Ok(cond),
+        Err(CondError::Memory) => Err(QuestionError::Memory),
+        Err(error) => Err(QuestionError::Cond {
+            key: String::from_str(alloc, path)?,
+            error,
+        }),
+    }
+}
+
+/// The range between two roles that the text at a path is.
+fn the_range(alloc: Global, order: &Order, path: &str, text: &str) -> Result<Range, QuestionError>
+    ensures answers { Answers (λ range. range) (a_range order.now.names path.now text.now) result }
+    ensures known { IfOk result (IsKnownRange (length order.now.names)) }
+{
+    let Some(named) = read_range(text) else {
+        return Err(QuestionError::WrongKind {
+            key: String::from_str(alloc, path)?,
+        });
+    };
+    let low = role_named(alloc, order, path, named.low)?;
+    let high = role_named(alloc, order, path, named.high)?;
+    Ok(Range {
+        low,
+        high,
+        low_open: named.low_open,
+        high_open: named.high_open,
+    })
+}
+
+/// The administrative role of a rule.
+fn the_admin(alloc: Global, order: &Order, rule: &Table, path: &str) -> Result<u16, QuestionError>
+    ensures { Answers (λ role. role) (admin_of order.now.names (table_view rule.now) path.now) result }
+{
+    let name = required_text(alloc, rule, path, "admin")?;
+    let key = key_path(alloc, path, "admin")?;
+    role_named(alloc, order, key.as_str(), name)
+}
+
+/// The condition of a rule.
+fn condition_in(
+    alloc: Global,
+    order: &Order,
+    rule: &Table,
+    path: &str,
+) -> Result<Cond, QuestionError>
+    ensures answers { Answers term_of (condition_of order.now.names (table_view rule.now) path.now) result }
+    ensures few { IfOk result (λ cond. term_count (term_of cond) ≤ MOST_TERMS) }
+{
+    let text = required_text(alloc, rule, path, "condition")?;
+    let key = key_path(alloc, path, "condition")?;
+    the_condition(alloc, order, key.as_str(), text)
+}
+
+/// The range of a rule.
+fn range_in(alloc: Global, order: &Order, rule: &Table, path: &str) -> Result<Range, QuestionError>
+    ensures { Answers (λ range. range) (range_of order.now.names (table_view rule.now) path.now) result }
+{
+    let text = required_text(alloc, rule, path, "range")?;
+    let key = key_path(alloc, path, "range")?;
+    the_range(alloc, order, key.as_str(), text)
+}
+
+/// Whether the condition names a role of the set.
+fn names_some(admins: &RoleSet, cond: &Cond) -> bool
+    ensures { result ≡ some_named (has_role admins.now) (term_of cond.now) }
+{
+    match cond {
+        Cond::Any => false,
+        Cond::Has(role) => admins.has(*role),
+        Cond::Lacks(role) => admins.has(*role),
+        Cond::And(left, right) => names_some(admins, left.get()) || names_some(admins, right.get()),
+        Cond::Or(left, right) => names_some(admins, left.get()) || names_some(admins, right.get()),
+    }
+}
+
+/// Whether the role that administers isn't administrative, or an end of the range is.
+fn is_mixed(admins: &RoleSet, admin: u16, range: &Range) -> bool
+    ensures { result ≡ is_mixed_rule admins.now admin range.now }
+{
+    !admins.has(admin) || admins.has(range.low) || admins.has(range.high)
+}
+
+/// Refuses a condition of too many conjuncts.
+fn not_wide(alloc: Global, cond: &Cond, path: &str) -> Result<(), QuestionError>
+    requires { term_count (term_of cond.now) ≤ MOST_TERMS }
+    ensures { Answers (λ _. tt) (narrow (term_of cond.now) path.now) result }
+{
+    let count = width_of(cond);
+    if count > MOST_CONJUNCTS as u128 {
+        return Err(QuestionError::TooWide {
+            key: String::from_str(alloc, path)?,
+            count,
+        });
+    }
+    Ok(())
+}
+
+/// Refuses a rule that is mixed.
+fn not_mixed(alloc: Global, is_mixed: bool, path: &str) -> Result<(), QuestionError>
+    ensures { Answers (λ _. tt) (fails_if is_mixed (mixed_role path.now)) result }
+{
+    if is_mixed {
+        return Err(QuestionError::MixedRole {
+            key: String::from_str(alloc, path)?,
+        });
+    }
+    Ok(())
+}
+
+/// The parts of a rule of `can_assign` or `can_assignp`.
+fn assign_parts(
+    alloc: Global,
+    order: &Order,
+    rule: &Table,
+    path: &str,
+) -> Result<CanAssign, QuestionError>
+    ensures answers { Answers plain_rule (assign_parts_of order.now.names (table_view rule.now) path.now) result }
+    ensures few { IfOk result (λ rule. term_count (term_of rule.cond) ≤ MOST_TERMS) }
+{
+    knows_only(alloc, &["admin", "condition", "range"], rule, path)?;
+    let admin = the_admin(alloc, order, rule, path)?;
+    let cond = condition_in(alloc, order, rule, path)?;
+    let range = range_in(alloc, order, rule, path)?;
+    Ok(CanAssign { admin, cond, range })
+}
+
+/// Refuses a rule whose condition is too wide, or which is mixed where roles are kept separate.
+fn assign_tests(
+    alloc: Global,
+    separate: bool,
+    admins: &RoleSet,
+    rule: &CanAssign,
+    path: &str,
+) -> Result<(), QuestionError>
+    requires { term_count (term_of rule.now.cond) ≤ MOST_TERMS }
+    ensures { Answers (λ _. tt) (assign_tests_of separate admins.now (plain_rule rule.now) path.now) result }
+{
+    not_wide(alloc, &rule.cond, path)?;
+    let is_mixed = separate
+        && (is_mixed(admins, rule.admin, &rule.range) || names_some(admins, &rule.cond));
+    not_mixed(alloc, is_mixed, path)
+}
+
+/// A rule of `can_assign` or `can_assignp`.
+fn an_assign_rule(
+    alloc: Global,
+    order: &Order,
+    separate: bool,
+    admins: &RoleSet,
+    path: &str,
+    value: &Value,
+) -> Result<CanAssign, QuestionError>
+    ensures { Answers plain_rule (assign_rule_of separate admins.now order.now.names path.now (view value.now)) result }
+{
+    let table = of_kind(alloc, value.as_table(), path)?;
+    let rule = assign_parts(alloc, order, table, path)?;
+    assign_tests(alloc, separate, admins, &rule, path)?;
+    Ok(rule)
+}
+
+/// The parts of a rule of `can_revoke` or `can_revokep`.
+fn revoke_parts(
+    alloc: Global,
+    order: &Order,
+    rule: &Table,
+    path: &str,
+) -> Result<CanRevoke, QuestionError>
+    ensures { Answers (λ rule. rule) (revoke_parts_of order.now.names (table_view rule.now) path.now) result }
+{
+    knows_only(alloc, &["admin", "range"], rule, path)?;
+    let admin = the_admin(alloc, order, rule, path)?;
+    let range = range_in(alloc, order, rule, path)?;
+    Ok(CanRevoke { admin, range })
+}
+
+/// Refuses a rule that is mixed where roles are kept separate.
+fn revoke_tests(
+    alloc: Global,
+    separate: bool,
+    admins: &RoleSet,
+    rule: &CanRevoke,
+    path: &str,
+) -> Result<(), QuestionError>
+    ensures { Answers (λ _. tt) (not_mixed_rule separate admins.now rule.now.admin rule.now.range None path.now) result }
+{
+    let is_mixed = separate && is_mixed(admins, rule.admin, &rule.range);
+    not_mixed(alloc, is_mixed, path)
+}
+
+/// A rule of `can_revoke` or `can_revokep`.
+fn a_revoke_rule(
+    alloc: Global,
+    order: &Order,
+    separate: bool,
+    admins: &RoleSet,
+    path: &str,
+    value: &Value,
+) -> Result<CanRevoke, QuestionError>
+    ensures { Answers (λ rule. rule) (revoke_rule_of separate admins.now order.now.names path.now (view value.now)) result }
+{
+    let table = of_kind(alloc, value.as_table(), path)?;
+    let rule = revoke_parts(alloc, order, table, path)?;
+    revoke_tests(alloc, separate, admins, &rule, path)?;
+    Ok(rule)
+}
+
+fn each_assign(
+    alloc: Global,
+    order: &Order,
+    separate: bool,
+    admins: &RoleSet,
+    key: &str,
+    list: &Array,
+) -> Result<Vec<CanAssign>, QuestionError>
+    ensures { Answers (λ rules. map plain_rule rules.items) (entries (assign_rule_of separate admins.now order.now.names) key.now (list_of (array_view list.now))) result }
+{
+    let mut rules = Vec::new(alloc);
+    for (place, value) in list.iter().enumerate() {
+        let at = entry_path(alloc, key, place)?;
+        let rule = an_assign_rule(alloc, order, separate, admins, at.as_str(), value)?;
+        rules.push(rule)?;
+    }
+    Ok(rules)
+}
+
+/// The rules of `can_assign` or `can_assignp`, the list under the key.
+pub fn assign_rules(
+    alloc: Global,
+    order: &Order,
+    separate: bool,
+    admins: &RoleSet,
+    table: &Table,
+    key: &str,
+) -> Result<Vec<CanAssign>, QuestionError>
+    ensures rules { Answers (λ rules. map plain_rule rules.items) (assign_rules_of separate admins.now order.now.names (table_view table.now) key.now) result }
+    ensures known { IfOk result (λ rules. Each (IsKnownAssign (length order.now.names)) rules.items) }
+    ensures few { IfOk result (λ rules. length rules.items ≤ MOST_RULES) }
+{
+    let Some(list) = optional_list(alloc, table, "", key)? else {
+        return Ok(Vec::new(alloc));
+    };
+    at_most(alloc, MOST_RULES, key, list)?;
+    each_assign(alloc, order, separate, admins, key, list)
+}
+
+fn each_revoke(
+    alloc: Global,
+    order: &Order,
+    separate: bool,
+    admins: &RoleSet,
+    key: &str,
+    list: &Array,
+) -> Result<Vec<CanRevoke>, QuestionError>
+    ensures { Answers (λ rules. rules.items) (entries (revoke_rule_of separate admins.now order.now.names) key.now (list_of (array_view list.now))) result }
+{
+    let mut rules = Vec::new(alloc);
+    for (place, value) in list.iter().enumerate() {
+        let at = entry_path(alloc, key, place)?;
+        let rule = a_revoke_rule(alloc, order, separate, admins, at.as_str(), value)?;
+        rules.push(rule)?;
+    }
+    Ok(rules)
+}
+
+/// The rules of `can_revoke` or `can_revokep`, the list under the key.
+pub fn revoke_rules(
+    alloc: Global,
+    order: &Order,
+    separate: bool,
+    admins: &RoleSet,
+    table: &Table,
+    key: &str,
+) -> Result<Vec<CanRevoke>, QuestionError>
+    ensures rules { Answers (λ rules. rules.items) (revoke_rules_of separate admins.now order.now.names (table_view table.now) key.now) result }
+    ensures known { IfOk result (λ rules. Each (IsKnownRevoke (length order.now.names)) rules.items) }
+    ensures few { IfOk result (λ rules. length rules.items ≤ MOST_RULES) }
+{
+    let Some(list) = optional_list(alloc, table, "", key)? else {
+        return Ok(Vec::new(alloc));
+    };
+    at_most(alloc, MOST_RULES, key, list)?;
+    each_revoke(alloc, order, separate, admins, key, list)
+}
