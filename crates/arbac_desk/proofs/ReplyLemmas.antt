@@ -1,5 +1,5 @@
 -- The reply to what was fetched, and to what the file holds.
-use Rattle.std.proofs.Common.{ℕ, ◌≡◌, ◌≤◌, ◌<◌, ◌+◌, ◌∙◌, List, [], ◌∷◌, length, take, refl, arith, zero, suc, sym, subst, ap, inl, inr, Option, Some, None}
+use Rattle.std.proofs.Common.{ℕ, ◌≡◌, ◌≤◌, ◌+◌, ◌∙◌, List, [], ◌∷◌, length, take, refl, arith, zero, suc, sym, subst, ap, inl, inr, Option, Some, None}
 use Rattle.std.specs.Prelude.{◌⊎◌, IfSome, map}
 use Rattle.role_order.specs.Lists.{Each}
 use Rattle.arbac_desk.specs.declared.TheConstants.{MOST_RUN_BYTES}
@@ -7,7 +7,7 @@ use Rattle.arbac_desk.specs.declared.reply.Reply.{Reply}
 use Rattle.arbac_desk.specs.declared.reply.Reply.TheVariants.{Done, Unmet, Stopped, Malformed}
 use Rattle.arbac_desk.specs.Answers.{status_of, text_of, Wrote, IsStatus}
 use Rattle.arbac_desk.specs.Faults.{malformed_line, run_text}
-use Rattle.arbac_desk.specs.Replies.{IsDone, IsUnmet, IsStopped, IsMalformed, IsNoRun, IsReplyText, RepliesTo}
+use Rattle.arbac_desk.specs.Replies.{IsDone, IsUnmet, IsStopped, IsMalformed, IsNoRun, AreTold, IsReplyText, RepliesTo}
 use Rattle.policy_text.specs.declared.run_error.RunError.{RunError}
 use Rattle.policy_text.specs.declared.run_error.RunError.TheVariants as runs
 use Rattle.policy_text.specs.declared.run_error.RunError.TheVariants.{BadLine, UnknownRole, Order, Cond, TooMany, Unended, Memory}
@@ -47,41 +47,35 @@ replied name all bytes (Malformed text) e (inl h) =
     inl (omega (arith, h.0, less, same), h.1)
 replied name all bytes (Malformed text) e (inr h) = inr (subst (λ b. (length b ≤ MOST_RUN_BYTES) × (fault : RunError) × IsNoRun b fault × (text.items ≡ malformed_line name (run_text fault))) (whole all bytes e h.0) h)
 
-pub if_replied : (name bytes : List ℕ) (reply : Reply) (told : Option (List ℕ)) → IfSome told (λ all. bytes ≡ take (MOST_RUN_BYTES + 1) all) → RepliesTo name bytes reply
-    → IfSome told (λ all. RepliesTo name all reply)
-if_replied name bytes reply None e h = tt
-if_replied name bytes reply (Some all) e h = replied name all bytes reply e h
+-- the reply to what was fetched is one to bytes that the shelf tells, if it tells any
+pub held : (name bytes : List ℕ) (reply : Reply) (told : Option (List ℕ)) → IfSome told (λ all. bytes ≡ take (MOST_RUN_BYTES + 1) all) → RepliesTo name bytes reply
+    → (all : List ℕ) × AreTold told all × RepliesTo name all reply
+held name bytes reply None e h = (bytes, tt, h)
+held name bytes reply (Some all) e h = (all, refl, replied name all bytes reply e h)
 
-pub if_done : (name : List ℕ) (reply : Reply) (told : Option (List ℕ)) → IfSome told (λ all. RepliesTo name all reply) → status_of reply ≡ 0 → IfSome told (λ all. IsDone all (text_of reply))
-if_done name (Done text) told h e = h
-if_done name (Unmet text) told h e = absurd (omega arith)
-if_done name (Stopped text) told h e = absurd (omega arith)
-if_done name (Malformed text) told h e = absurd (omega arith)
+pub done_of : (name bytes : List ℕ) (reply : Reply) → RepliesTo name bytes reply → status_of reply ≡ 0 → IsDone bytes (text_of reply)
+done_of name bytes (Done text) h e = h
+done_of name bytes (Unmet text) h e = absurd (omega arith)
+done_of name bytes (Stopped text) h e = absurd (omega arith)
+done_of name bytes (Malformed text) h e = absurd (omega arith)
 
-pub if_refused : (name : List ℕ) (reply : Reply) (told : Option (List ℕ)) → IfSome told (λ all. RepliesTo name all reply) → status_of reply ≡ 21
-    → IfSome told (λ all. IsUnmet all (text_of reply) ⊎ IsStopped all (text_of reply))
-if_refused name (Done text) told h e = absurd (omega arith)
-if_refused name (Unmet text) None h e = tt
-if_refused name (Unmet text) (Some all) h e = inl h
-if_refused name (Stopped text) None h e = tt
-if_refused name (Stopped text) (Some all) h e = inr h
-if_refused name (Malformed text) told h e = absurd (omega arith)
+pub refused_of : (name bytes : List ℕ) (reply : Reply) → RepliesTo name bytes reply → status_of reply ≡ 21 → IsUnmet bytes (text_of reply) ⊎ IsStopped bytes (text_of reply)
+refused_of name bytes (Done text) h e = absurd (omega arith)
+refused_of name bytes (Unmet text) h e = inl h
+refused_of name bytes (Stopped text) h e = inr h
+refused_of name bytes (Malformed text) h e = absurd (omega arith)
 
-pub if_malformed : (name : List ℕ) (reply : Reply) (told : Option (List ℕ)) → IfSome told (λ all. RepliesTo name all reply) → status_of reply ≡ 3 → IfSome told (λ all. IsMalformed name all (text_of reply))
-if_malformed name (Done text) told h e = absurd (omega arith)
-if_malformed name (Unmet text) told h e = absurd (omega arith)
-if_malformed name (Stopped text) told h e = absurd (omega arith)
-if_malformed name (Malformed text) told h e = h
+pub malformed_of : (name bytes : List ℕ) (reply : Reply) → RepliesTo name bytes reply → status_of reply ≡ 3 → IsMalformed name bytes (text_of reply)
+malformed_of name bytes (Done text) h e = absurd (omega arith)
+malformed_of name bytes (Unmet text) h e = absurd (omega arith)
+malformed_of name bytes (Stopped text) h e = absurd (omega arith)
+malformed_of name bytes (Malformed text) h e = h
 
-pub if_text : (name : List ℕ) (reply : Reply) (told : Option (List ℕ)) → IfSome told (λ all. RepliesTo name all reply) → IfSome told (IsReplyText name (text_of reply))
-if_text name (Done text) None h = tt
-if_text name (Done text) (Some all) h = inl h
-if_text name (Unmet text) None h = tt
-if_text name (Unmet text) (Some all) h = inr (inl h)
-if_text name (Stopped text) None h = tt
-if_text name (Stopped text) (Some all) h = inr (inr (inl h))
-if_text name (Malformed text) None h = tt
-if_text name (Malformed text) (Some all) h = inr (inr (inr h))
+pub reply_text : (name bytes : List ℕ) (reply : Reply) → RepliesTo name bytes reply → IsReplyText name bytes (text_of reply)
+reply_text name bytes (Done text) h = inl h
+reply_text name bytes (Unmet text) h = inr (inl h)
+reply_text name bytes (Stopped text) h = inr (inr (inl h))
+reply_text name bytes (Malformed text) h = inr (inr (inr h))
 
 -- a status other than those of a failed writing is the one that was asked for
 pub asked : (result status want : ℕ) → (result ≡ status) ⊎ ((result ≡ 5) ⊎ (result ≡ 7)) → result ≡ want → (want ≡ 5 → ⊥) → (want ≡ 7 → ⊥) → result ≡ status
@@ -106,7 +100,7 @@ not_malformed name bytes text value stands few (inr h) = h.2.none value stands
 
 -- a run text is answered, where nothing failed
 pub if_answered : (name : List ℕ) (told : Option (List ℕ)) (result : ℕ) (H O : Type 0) (old new : Option (List ℕ)) → IsStatus result
-    → (result ≡ 3 → Wrote old new (λ text. IfSome told (λ bytes. IsMalformed name bytes text))) → (result ≡ 4 → H) → (result ≡ 5 → O)
+    → (result ≡ 3 → (all : List ℕ) × AreTold told all × Wrote old new (IsMalformed name all)) → (result ≡ 4 → H) → (result ≡ 5 → O)
     → IfSome told (λ bytes. (value : RunValue) → StandsFor bytes value → length bytes ≤ MOST_RUN_BYTES → (H → ⊥) → (O → ⊥) → (result ≡ 0) ⊎ ((result ≡ 21) ⊎ (result ≡ 7)))
 if_answered name None result H O old new known malformed read write = tt
 if_answered name (Some bytes) result H O old new known malformed read write = λ value stands few no_read no_write. by_status value stands few no_read no_write known
@@ -114,7 +108,7 @@ if_answered name (Some bytes) result H O old new known malformed read write = λ
     by_status : (value : RunValue) → StandsFor bytes value → length bytes ≤ MOST_RUN_BYTES → (H → ⊥) → (O → ⊥) → IsStatus result → (result ≡ 0) ⊎ ((result ≡ 21) ⊎ (result ≡ 7))
     by_status value stands few no_read no_write (inl e) = inl e
     by_status value stands few no_read no_write (inr (inl e)) = inr (inl e)
-    by_status value stands few no_read no_write (inr (inr (inl e))) = let w = malformed e in absurd (not_malformed name bytes w.0 value stands few w.1)
+    by_status value stands few no_read no_write (inr (inr (inl e))) = let w = malformed e in absurd (not_malformed name bytes w.2.0 value stands few (subst (λ all. IsMalformed name all w.2.0) w.1 w.2.1))
     by_status value stands few no_read no_write (inr (inr (inr (inl e)))) = absurd (no_read (read e))
     by_status value stands few no_read no_write (inr (inr (inr (inr (inl e))))) = absurd (no_write (write e))
     by_status value stands few no_read no_write (inr (inr (inr (inr (inr e))))) = inr (inr e)

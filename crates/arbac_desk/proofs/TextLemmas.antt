@@ -1,5 +1,5 @@
 -- Texts that grow piece by piece.
-use Rattle.std.proofs.Common.{ℕ, ◌≡◌, ◌+◌, ◌<◌, ◌≤◌, ◌∙◌, Bool, List, [], ◌∷◌, ◌++◌, append_assoc, append-nil, length, drop, refl, arith, sym, ap, zero, suc, Some, None, get_or}
+use Rattle.std.proofs.Common.{ℕ, ◌≡◌, ◌+◌, ◌<◌, ◌≤◌, ◌∙◌, List, [], ◌∷◌, ◌++◌, append_assoc, append-nil, length, drop, refl, arith, sym, ap, zero, suc, Some}
 use Rattle.std.specs.Prelude.{slice_get, if◌then◌else◌}
 use Rattle.role_order.specs.Roles.{has_role}
 use Rattle.arbac_desk.specs.Texts.{name_of, held_from, user_line, user_lines, goal_line, goal_lines}

@@ -1,5 +1,5 @@
 -- What `replay` answers to the bytes of its file.
-use Rattle.std.specs.Prelude.{ℕ, ◌≡◌, ◌≢◌, ◌<◌, ◌≤◌, ◌⊎◌, List, length, map, codes, Option, Some, None, IfSome}
+use Rattle.std.specs.Prelude.{ℕ, ◌≡◌, ◌≢◌, ◌<◌, ◌≤◌, ◌⊎◌, List, length, map, codes, Option, Some, None}
 use Rattle.arbac_policy.specs.declared.verdict.Part.{Part}
 use Rattle.arbac_policy.specs.Truth.{term_of}
 use Rattle.arbac_policy.specs.Steps.{Run as IsRun}
@@ -7,7 +7,7 @@ use Rattle.arbac_policy.specs.Goals.{GoalMet}
 use Rattle.policy_text.specs.declared.run.Run.{Run}
 use Rattle.policy_text.specs.declared.run_error.RunError.{RunError}
 use Rattle.policy_text.specs.declared.run_error.RunError.TheVariants as runs
-use Rattle.policy_text.specs.Runs.{RunValue, StandsFor, plain_of}
+use Rattle.policy_text.specs.Runs.{RunValue, StandsFor, plain_of, IsForUsers}
 use Rattle.policy_text.specs.Faults.{IsFirstFault}
 use Rattle.plan_replay.specs.Replays.{StopsAt}
 use Rattle.plan_replay.specs.GoalLists.{AreLeast}
@@ -22,6 +22,7 @@ use Rattle.arbac_desk.specs.Words.{usage_line}
 pub record EndsAt (bytes : List ℕ) (run : Run) (sets : List (List ℕ)) : Type 0 where
   pub few : length bytes ≤ MOST_RUN_BYTES
   pub stands : StandsFor bytes (plain_of run)
+  pub users : IsForUsers run.policy
   pub acts : IsRun run.policy run.start.items run.acts.items sets
 
 -- the goal is met at the end, by these users
@@ -46,6 +47,7 @@ pub record IsStopped (bytes text : List ℕ) : Type 0 where
   pub few : length bytes ≤ MOST_RUN_BYTES
   pub run : Run
   pub stands : StandsFor bytes (plain_of run)
+  pub users : IsForUsers run.policy
   pub place : ℕ
   pub part : Part
   pub stops : StopsAt run.policy run.start.items run.acts.items place part
@@ -71,11 +73,21 @@ RepliesTo name bytes (Unmet text) = IsUnmet bytes text.items
 RepliesTo name bytes (Stopped text) = IsStopped bytes text.items
 RepliesTo name bytes (Malformed text) = IsMalformed name bytes text.items
 
+-- the bytes are those that the shelf tells, if it tells any
+abbrev pub AreTold : Option (List ℕ) → List ℕ → Type 0
+AreTold None bytes = Unit {0}
+AreTold (Some all) bytes = bytes ≡ all
+
 -- the text is one that `replay` writes to these bytes of the file
 abbrev pub IsReplyText : List ℕ → List ℕ → List ℕ → Type 0
-IsReplyText name text bytes = IsDone bytes text ⊎ (IsUnmet bytes text ⊎ (IsStopped bytes text ⊎ IsMalformed name bytes text))
+IsReplyText name bytes text = IsDone bytes text ⊎ (IsUnmet bytes text ⊎ (IsStopped bytes text ⊎ IsMalformed name bytes text))
 
--- the text is one that is written to these words, the file that they name being told so
-abbrev pub IsText : Option (List ℕ) → (List ℕ → Option (List ℕ)) → List ℕ → Type 0
-IsText None told text = text ≡ usage_line
-IsText (Some name) told text = (text ≡ read_fault_line name) ⊎ IfSome (told name) (IsReplyText name text)
+-- the text is one that is written where the file is fetched: the line of a fetch that failed, or the reply to its bytes
+abbrev pub IsFileText : List ℕ → Type 0 → Option (List ℕ) → List ℕ → Type 0
+IsFileText name failed told text =
+    (failed × (text ≡ read_fault_line name)) ⊎ ((bytes : List ℕ) × AreTold told bytes × IsReplyText name bytes text)
+
+-- the text is one that is written to these words
+abbrev pub IsText : Option (List ℕ) → (List ℕ → Type 0) → (List ℕ → Option (List ℕ)) → List ℕ → Type 0
+IsText None failed told text = text ≡ usage_line
+IsText (Some name) failed told text = IsFileText name (failed name) (told name) text

@@ -5,7 +5,7 @@ ghost use Rattle.desk_ports.specs.Faults.{Rose};
 ghost use Rattle.desk_ports.specs.Sinks.{Took, TookFront};
 ghost use Rattle.arbac_desk.specs.Words.{run_named as named, usage_line};
 ghost use Rattle.arbac_desk.specs.Faults.{read_fault_line};
-ghost use Rattle.arbac_desk.specs.Replies.{RepliesTo, IsDone, IsUnmet, IsStopped, IsMalformed, IsReplyText, IsText};
+ghost use Rattle.arbac_desk.specs.Replies.{IsDone, IsUnmet, IsStopped, IsMalformed, AreTold, IsFileText, IsText};
 ghost use Rattle.policy_text.specs.Runs.{RunValue, StandsFor};
 ghost use Rattle.arbac_desk.specs.Answers.{status_of, text_of, Wrote, WroteFront, IsStatus};
 
@@ -37,16 +37,17 @@ fn say<O: Sink>(out: &mut O, text: &[u8], status: Status) -> Status
 
 /// Answers `replay` over the file of this name.
 fn replay_file<H: Shelf, O: Sink>(alloc: Global, name: &str, shelf: &mut H, out: &mut O) -> Status
-    ensures done { result ≡ 0 → Wrote (O.taken out.old) (O.taken out.new) (λ text. IfSome (H.told shelf.old name.now) (λ bytes. IsDone bytes text)) }
-    ensures refused { result ≡ 21 → Wrote (O.taken out.old) (O.taken out.new)
-        (λ text. IfSome (H.told shelf.old name.now) (λ bytes. IsUnmet bytes text ⊎ IsStopped bytes text)) }
-    ensures malformed { result ≡ 3 → Wrote (O.taken out.old) (O.taken out.new)
-        (λ text. IfSome (H.told shelf.old name.now) (λ bytes. IsMalformed name.now bytes text)) }
+    ensures done { result ≡ 0 → (bytes : List ℕ) × AreTold (H.told shelf.old name.now) bytes
+        × Wrote (O.taken out.old) (O.taken out.new) (IsDone bytes) }
+    ensures refused { result ≡ 21 → (bytes : List ℕ) × AreTold (H.told shelf.old name.now) bytes
+        × Wrote (O.taken out.old) (O.taken out.new) (λ text. IsUnmet bytes text ⊎ IsStopped bytes text) }
+    ensures malformed { result ≡ 3 → (bytes : List ℕ) × AreTold (H.told shelf.old name.now) bytes
+        × Wrote (O.taken out.old) (O.taken out.new) (IsMalformed name.now bytes) }
     ensures read_fault { result ≡ 4 → Rose (H.faults shelf.old) (H.faults shelf.new) × (H.missed shelf.new ≡ name.now)
         × Wrote (O.taken out.old) (O.taken out.new) (λ text. text ≡ read_fault_line name.now) }
     ensures write_fault { result ≡ 5 → Rose (O.faults out.old) (O.faults out.new) }
     ensures front { (result ≡ 5) ⊎ (result ≡ 7) → WroteFront (O.taken out.old) (O.taken out.new)
-        (λ text. (text ≡ read_fault_line name.now) ⊎ IfSome (H.told shelf.old name.now) (IsReplyText name.now text)) }
+        (IsFileText name.now (Rose (H.faults shelf.old) (H.faults shelf.new) × (H.missed shelf.new ≡ name.now)) (H.told shelf.old name.now)) }
     ensures known { IsStatus result }
     ensures words { ¬ (result ≡ 2) }
 {
@@ -77,25 +78,25 @@ pub fn arbac_desk<H: Shelf, O: Sink>(
     ensures usage_text { result ≡ 2 → Took (O.taken out.old) (O.taken out.new) usage_line }
 
     // The file is a run text whose acts are steps, one by one, to a population that meets the goal.
-    ensures done { result ≡ 0 → (name : List ℕ) × (named words.now ≡ Some name) × Wrote (O.taken out.old) (O.taken out.new)
-        (λ text. IfSome (H.told shelf.old name) (λ bytes. IsDone bytes text)) }
+    ensures done { result ≡ 0 → (name : List ℕ) × (named words.now ≡ Some name) × (bytes : List ℕ) × AreTold (H.told shelf.old name) bytes
+        × Wrote (O.taken out.old) (O.taken out.new) (IsDone bytes) }
 
     // It is a run text whose goal isn't met at the end, or one of whose acts is no step.
-    ensures refused { result ≡ 21 → (name : List ℕ) × (named words.now ≡ Some name) × Wrote (O.taken out.old) (O.taken out.new)
-        (λ text. IfSome (H.told shelf.old name) (λ bytes. IsUnmet bytes text ⊎ IsStopped bytes text)) }
+    ensures refused { result ≡ 21 → (name : List ℕ) × (named words.now ≡ Some name) × (bytes : List ℕ) × AreTold (H.told shelf.old name) bytes
+        × Wrote (O.taken out.old) (O.taken out.new) (λ text. IsUnmet bytes text ⊎ IsStopped bytes text) }
 
     // It is too long, or no run text.
-    ensures malformed { result ≡ 3 → (name : List ℕ) × (named words.now ≡ Some name) × Wrote (O.taken out.old) (O.taken out.new)
-        (λ text. IfSome (H.told shelf.old name) (λ bytes. IsMalformed name bytes text)) }
+    ensures malformed { result ≡ 3 → (name : List ℕ) × (named words.now ≡ Some name) × (bytes : List ℕ) × AreTold (H.told shelf.old name) bytes
+        × Wrote (O.taken out.old) (O.taken out.new) (IsMalformed name bytes) }
 
-    // A fault comes only where the count of the shelf, or of the sink, rose in this call.
+    // A fault is answered only where the shelf, or the sink, counted one during the call.
     ensures read_fault { result ≡ 4 → (name : List ℕ) × (named words.now ≡ Some name) × Rose (H.faults shelf.old) (H.faults shelf.new)
         × (H.missed shelf.new ≡ name) × Wrote (O.taken out.old) (O.taken out.new) (λ text. text ≡ read_fault_line name) }
     ensures write_fault { result ≡ 5 → Rose (O.faults out.old) (O.faults out.new) }
 
     // After a write fault or want of memory a prefix of the text was written, or nothing.
     ensures front { (result ≡ 5) ⊎ (result ≡ 7) → WroteFront (O.taken out.old) (O.taken out.new)
-        (IsText (named words.now) (H.told shelf.old)) }
+        (IsText (named words.now) (λ name. Rose (H.faults shelf.old) (H.faults shelf.new) × (H.missed shelf.new ≡ name)) (H.told shelf.old)) }
     ensures known { (result ≡ 2) ⊎ IsStatus result }
 
     // A run text is answered, where no count rose and memory was there.

@@ -3,7 +3,7 @@
 ghost use Rattle.std.specs.Prelude.{ℕ, ◌≡◌, ◌<◌, ◌≤◌, ◌^◌, length, IfOk, List, IsTrue, ◌↔◌};
 ghost use Rattle.role_order.specs.Lists.{Each};
 ghost use Rattle.arbac_policy.specs.Truth.{term_of, IsKnown};
-ghost use Rattle.policy_text.specs.Runs.{StandsFor, plain_of};
+ghost use Rattle.policy_text.specs.Runs.{StandsFor, plain_of, IsForUsers};
 ghost use Rattle.arbac_desk.specs.Replies.{RepliesTo, EndsAt};
 ghost use Rattle.policy_text.specs.declared.run_error.RunError.TheVariants as runs;
 ghost use Rattle.arbac_desk.specs.Answers.{status_of, text_of};
@@ -82,6 +82,7 @@ fn reply_to_run(alloc: Global, bytes: &[u8], run: &Run) -> Result<Reply, AllocEr
     requires acts { length run.now.acts.items < 2 ^ 32 }
     requires users { length run.now.start.items < 2 ^ 32 }
     requires stands { StandsFor bytes.now (plain_of run.now) }
+    requires for_users { IsForUsers run.now.policy }
     ensures { IfOk result (λ reply. (name : List ℕ) → RepliesTo name bytes.now reply) }
 {
     match replay(alloc, &run.policy, &run.start, &run.acts)? {

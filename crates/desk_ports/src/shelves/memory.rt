@@ -31,8 +31,8 @@ impl Model for MemShelf {
 }
 
 impl MemShelf {
-    /// A shelf of these texts by name. Of equal names the first counts, and a name that isn't listed
-    /// has the empty text. `fail` lists the numbers of the calls that are to fail, from 1.
+    /// A shelf of these texts by name. Where a name stands twice its first text is taken, and any
+    /// other name has the empty text. `fail`: which calls fail, by number from 1.
     pub fn new(alloc: Global, files: Vec<(String, Vec<u8>)>, fail: Vec<u64>) -> MemShelf
         ensures texts { result.texts ≡ texts_of files.items }
         ensures plan { result.plan ≡ fresh_plan fail.items }

@@ -23,7 +23,7 @@ impl Model for MemSink {
 }
 
 impl MemSink {
-    /// A sink that took nothing yet. `fail` lists the numbers of the calls that are to fail, from 1.
+    /// A sink that took nothing yet. `fail`: which calls fail, by number from 1.
     pub fn new(alloc: Global, fail: Vec<u64>) -> MemSink
         ensures taken { result.taken ≡ [] }
         ensures plan { result.plan ≡ fresh_plan fail.items }

@@ -1,4 +1,4 @@
-use Rattle.std.proofs.Common.{ℕ, ◌≡◌, ◌≤◌, List, length, subst, Some}
+use Rattle.std.proofs.Common.{ℕ, ◌≡◌, ◌≤◌, List, length, subst}
 use Rattle.std.specs.Prelude.{◌⊎◌, IfSome}
 use Rattle.desk_ports.specs.Faults.{Rose}
 use Rattle.policy_text.specs.Runs.{RunValue, StandsFor}

@@ -1,4 +1,3 @@
-use Rattle.std.proofs.Common.{◌≡◌, ◌++◌, append_assoc}
 use Rattle.arbac_desk.specs.Faults.{malformed_line}
 use Rattle.arbac_desk.proofs.faults.malformed.Goals as goal
 

@@ -1,4 +1,4 @@
-use Rattle.std.proofs.Common.{◌≡◌, ◌++◌, append_assoc}
+use Rattle.std.proofs.Common.{append_assoc}
 use Rattle.arbac_desk.specs.Faults.{read_fault_line}
 use Rattle.arbac_desk.proofs.faults.read_fault.Goals as goal
 

@@ -1,4 +1,4 @@
-use Rattle.std.proofs.Common.{◌≡◌, ◌++◌, append_assoc}
+use Rattle.std.proofs.Common.{append_assoc}
 use Rattle.arbac_desk.specs.Faults.{malformed_line}
 use Rattle.arbac_desk.proofs.faults.too_long.Goals as goal
 

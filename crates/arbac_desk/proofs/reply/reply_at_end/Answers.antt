@@ -1,4 +1,4 @@
-use Rattle.std.proofs.Common.{◌≡◌, ◌∙◌, ap}
+use Rattle.std.proofs.Common.{◌∙◌, ap}
 use Rattle.role_order.specs.Graph.{Graph}
 use Rattle.arbac_desk.specs.Texts.{done_text, unmet_text}
 use Rattle.arbac_desk.proofs.reply.reply_at_end.Goals as goal

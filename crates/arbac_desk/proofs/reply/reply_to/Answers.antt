@@ -1,4 +1,4 @@
-use Rattle.std.proofs.Common.{ℕ, ◌≡◌, ◌∙◌, ◌≤◌, inr, sym, length}
+use Rattle.std.proofs.Common.{◌≡◌, ◌∙◌, inr, sym, length}
 use Rattle.std.proofs.lemmas.Bool.{false≢true}
 use Rattle.policy_text.specs.declared.run_error.RunError.TheVariants as runs
 use Rattle.arbac_desk.proofs.ReplyLemmas.{no_value, known_conds, first_fault}

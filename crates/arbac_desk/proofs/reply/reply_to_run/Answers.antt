@@ -1,4 +1,4 @@
-use Rattle.std.proofs.Common.{◌≡◌, ◌∙◌, ◌<◌, ap, arith, length}
+use Rattle.std.proofs.Common.{◌≡◌, ◌∙◌, ap, arith, length}
 use Rattle.role_order.specs.Graph.{Graph}
 use Rattle.arbac_desk.specs.Texts.{stopped_text}
 use Rattle.arbac_desk.proofs.reply.reply_to_run.Goals as goal
@@ -13,6 +13,7 @@ returns-in_ok-stopped-in-Stopped c = λ name. record {
   few = c.requires.few;
   run = c.args.run.now;
   stands = c.requires.stands;
+  users = c.requires.for_users;
   place = c.in-Stopped.place;
   part = c.in-Stopped.part;
   stops = rw (c.deref.ensures.value, c.deref-2.ensures.value) at (rw c.in-Stopped.is at c.in_ok-place.ensures.stopped);

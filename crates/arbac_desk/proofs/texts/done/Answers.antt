@@ -1,4 +1,4 @@
-use Rattle.std.proofs.Common.{◌≡◌, ◌∙◌, ◌++◌, append_assoc}
+use Rattle.std.proofs.Common.{append_assoc}
 use Rattle.arbac_desk.specs.Texts.{done_text}
 use Rattle.arbac_desk.proofs.texts.done.Goals as goal
 

@@ -1,4 +1,4 @@
-use Rattle.std.proofs.Common.{◌≡◌, ◌∙◌, ◌++◌, append_assoc}
+use Rattle.std.proofs.Common.{append_assoc}
 use Rattle.arbac_desk.specs.Texts.{goal_line}
 use Rattle.arbac_desk.proofs.texts.put_goal.Goals as goal
 

@@ -1,6 +1,6 @@
-use Rattle.std.proofs.Common.{◌≡◌, ◌∙◌, ◌++◌, sym, ap, drop, get_or, ◌+◌}
+use Rattle.std.proofs.Common.{◌∙◌, ◌++◌, sym, ap, drop, ◌+◌}
 use Rattle.role_order.proofs.ListLemmas.{get_at}
-use Rattle.arbac_desk.specs.Texts.{goal_line, goal_lines}
+use Rattle.arbac_desk.specs.Texts.{goal_lines}
 use Rattle.arbac_desk.proofs.TextLemmas.{moved, finished, goal_lines_step, goal_lines_end}
 use Rattle.arbac_desk.proofs.texts.put_goals.Goals as goal
 

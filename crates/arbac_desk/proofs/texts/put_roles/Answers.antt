@@ -1,4 +1,4 @@
-use Rattle.std.proofs.Common.{◌≡◌, ◌∙◌, ◌++◌, ◌≤◌, ◌<◌, length, arith, sym, ap, drop, ◌+◌}
+use Rattle.std.proofs.Common.{◌∙◌, ◌++◌, arith, sym, ap, drop, ◌+◌}
 use Rattle.arbac_desk.specs.Texts.{held_from}
 use Rattle.arbac_desk.proofs.TextLemmas.{moved, finished, held_from_step, held_from_end}
 use Rattle.arbac_desk.proofs.texts.put_roles.Goals as goal

@@ -1,4 +1,4 @@
-use Rattle.std.proofs.Common.{◌≡◌, rules}
+use Rattle.std.proofs.Common.{rules}
 use Rattle.arbac_desk.specs.Words.{usage_line}
 use Rattle.arbac_desk.proofs.words.usage.Goals as goal
 
