@@ -1,5 +1,5 @@
 -- The combinations of conjuncts, as far as conditions of a goal were counted.
-use Rattle.std.proofs.Common.{ℕ, zero, suc, ◌≡◌, ◌<◌, ◌≤◌, ◌+◌, ◌*◌, ◌^◌, true, false, List, [], ◌∷◌, length, get_or, map, drop, ◌∙◌, Some, Result, Ok, Err, refl, sym, ap, subst, arith, inl, inr}
+use Rattle.std.proofs.Common.{ℕ, zero, suc, ◌≡◌, ◌<◌, ◌≤◌, ◌+◌, ◌*◌, ◌^◌, true, false, List, [], ◌∷◌, length, get_or, map, drop, ◌∙◌, Some, Result, Err, refl, sym, ap, subst, arith, inl, inr}
 use Rattle.std.specs.Prelude.{nat_lt, slice_get, codes}
 use Rattle.std.proofs.lemmas.Bool.Decides.{nat_tests}
 use Rattle.std.proofs.Math.Nat.{mul-le-mul, le_trans}
@@ -68,7 +68,3 @@ narrow_at conds i n w cond counts l is wide few r h =
     counts r (subst (λ (ts : List Term). not_wide_goal n ts r) (sym (at_place conds i cond l is))
     (narrow_step n (term_of cond) (drop (i + 1) (map term_of conds)) r (subst (λ (x : ℕ). n * x ≤ MOST_CONJUNCTS) wide few)
     (subst (λ (x : ℕ). not_wide_goal (n * x) (drop (i + 1) (map term_of conds)) r) wide h)))
-
--- all conditions were counted
-pub narrow_all : (conds : List Cond) (i n : ℕ) → CountsFrom conds i n → length conds ≤ i → not_wide_goal 1 (map term_of conds) (Ok tt)
-narrow_all conds i n counts past = counts (Ok tt) (subst (λ (ts : List Term). not_wide_goal n ts (Ok tt)) (sym (drop_all term_of conds i past)) refl)

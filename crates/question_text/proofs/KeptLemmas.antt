@@ -17,10 +17,9 @@ use Rattle.question_text.specs.declared.TheConstants.{MOST_PAIRS}
 use Rattle.question_text.specs.Outcomes.{Outcome}
 use Rattle.question_text.specs.Values.{QuestionValue}
 use Rattle.question_text.specs.Keys.{if_different, as_two_texts, of_kind}
-use Rattle.question_text.specs.Roles.{role_named, is_order, admin_roles, both_roles, an_edge, a_pair, is_mixed, unless_mixed, not_mixed, role_edges, exclusive_pairs}
+use Rattle.question_text.specs.Roles.{role_named, is_order, admin_roles, both_roles, an_edge, a_pair, is_mixed, unless_mixed, not_mixed, role_edges, exclusive_pairs, listed_roles}
 use Rattle.question_text.specs.Documents.{question, document}
 use Rattle.question_text.specs.Rules.{IsSet, IsPair, AreApart, KeepsRules}
-use Rattle.question_text.proofs.RoleLemmas.{listed_roles}
 use Rattle.question_text.proofs.TableLaws.{found_at, passed, within, role_kept, entries_kept, set_kept, assign_rules_kept, revoke_rules_kept, assign_rules_apart, revoke_rules_apart, profiles_kept, goal_kept}
 use Rattle.question_text.proofs.OutcomeLemmas.{same_ok, no_ok_err}
 

@@ -9,13 +9,3 @@ pub mod SoleLemmas
 pub mod GroupLemmas
 pub mod KeptLemmas
 pub mod ReadLemmas
-pub mod TightLemmas
-pub mod BlockLemmas
-pub mod ValueLemmas
-pub mod NamedLemmas
-pub mod EntryLemmas
-pub mod BackTableLemmas
-pub mod BackPartLemmas
-pub mod BackLemmas
-pub mod WrittenLemmas
-pub mod PieceLemmas

@@ -3,11 +3,12 @@ use Rattle.std.proofs.Common.{ℕ, ◌≡◌, Bool, true, false, List, [], ◌�
 use Rattle.std.specs.Prelude.{codes, IfOk}
 use Rattle.toml.specs.Data.{Data, Members}
 use Rattle.role_order.specs.Roles.{with_role}
+use Rattle.policy_text.specs.declared.TheConstants.{MOST_EDGES}
 use Rattle.policy_text.specs.Runs.{set_of}
 use Rattle.question_text.specs.declared.question_error.QuestionError.{QuestionError}
 use Rattle.question_text.specs.Outcomes.{Fault, Outcome, gives, ◌>>=◌}
 use Rattle.question_text.specs.Keys.{as_list, required, optional, at_most, entries}
-use Rattle.question_text.specs.Roles.{a_text, is_order, role_names, not_mixed, listed_edges, role_edges}
+use Rattle.question_text.specs.Roles.{a_text, is_order, an_edge, role_names, not_mixed, listed_roles, role_edges}
 use Rattle.question_text.specs.Answers.{fault_of, IsToldBy, Answers}
 use Rattle.question_text.proofs.KeyLemmas.{few_enough}
 use Rattle.question_text.proofs.OutcomeLemmas.{passes, goes_on, tells_on}
@@ -47,10 +48,6 @@ behind_count read separate admins key list = entries read key list >>= behind_en
 
 abbrev behind_list : ℕ → (List ℕ → Data → Outcome (ℕ × ℕ)) → Bool → List ℕ → List ℕ → List Data → Outcome (List (ℕ × ℕ))
 behind_list most read separate admins key list = at_most most key list >>= λ few. behind_count read separate admins key list
-
--- a list of pairs of roles under a key, as edges and exclusive pairs are
-abbrev pub listed_roles : ℕ → (List ℕ → Data → Outcome (ℕ × ℕ)) → Bool → List ℕ → List ℕ → Members → Outcome (List (ℕ × ℕ))
-listed_roles most read separate admins key table = optional as_list [] table [] key >>= behind_list most read separate admins key
 
 pub many_told : (most : ℕ) (read : List ℕ → Data → Outcome (ℕ × ℕ)) (separate : Bool) (admins key : List ℕ) (table : Members) (list : List Data) (told : Option Fault)
     → optional as_list [] table [] key (Ok list) → IsToldBy (at_most most key list) told → IsToldBy (listed_roles most read separate admins key table) told
@@ -95,11 +92,11 @@ none_listed most read separate admins key table h =
 
 -- the edges were read: the order speaks
 pub edges_speak : {A : Type 0} (edges_of : A → List (ℕ × ℕ)) (separate : Bool) (admins : List ℕ) (names : List (List ℕ)) (table : Members) (edges : List (ℕ × ℕ)) (result : Result A QuestionError)
-    → listed_edges separate admins names table (Ok edges) → Answers (λ _. tt) (is_order names edges) result → IfOk result (λ order. edges_of order ≡ edges)
+    → listed_roles MOST_EDGES (an_edge names) separate admins (codes "edges") table (Ok edges) → Answers (λ _. tt) (is_order names edges) result → IfOk result (λ order. edges_of order ≡ edges)
     → Answers edges_of (role_edges separate admins names table) result
 edges_speak edges_of separate admins names table edges (Ok order) h answer is =
-    goes_on (listed_edges separate admins names table) (λ edges. is_order names edges >>= λ done. gives edges) edges (Ok (edges_of order)) h
+    goes_on (listed_roles MOST_EDGES (an_edge names) separate admins (codes "edges") table) (λ edges. is_order names edges >>= λ done. gives edges) edges (Ok (edges_of order)) h
     (goes_on (is_order names edges) (λ done. gives edges) tt (Ok (edges_of order)) answer (ap (λ (es : List (ℕ × ℕ)). Ok es) is))
 edges_speak edges_of separate admins names table edges (Err error) h answer is =
-    tells_on (listed_edges separate admins names table) (λ edges. is_order names edges >>= λ done. gives edges) edges (fault_of error) h
+    tells_on (listed_roles MOST_EDGES (an_edge names) separate admins (codes "edges") table) (λ edges. is_order names edges >>= λ done. gives edges) edges (fault_of error) h
     (passes (is_order names edges) (λ done. gives edges) (fault_of error) answer)

@@ -19,10 +19,9 @@ use Rattle.policy_text.proofs.OrderLemmas.{order_clash, refusal_one}
 use Rattle.question_text.specs.declared.TheConstants.{MOST_PAIRS, MOST_PROFILES}
 use Rattle.question_text.specs.Outcomes.{no_order, no_cond, Outcome}
 use Rattle.question_text.specs.Keys.{toml_of, as_list, as_two_texts, as_two_different_texts, as_version, as_most, as_filled_list, must_be, required, may_be, optional, of_kind, unless_unknown, first_unknown, knows_only, at_most, entries, key_of}
-use Rattle.question_text.specs.Roles.{a_text, found, role_named, a_role, role_set, is_order, role_names, admin_list, admin_roles, both_roles, an_edge, a_pair, is_mixed, unless_mixed, not_mixed, listed_edges, role_edges, listed_pairs, exclusive_pairs}
+use Rattle.question_text.specs.Roles.{a_text, found, role_named, a_role, role_set, is_order, role_names, admin_list, admin_roles, both_roles, an_edge, a_pair, is_mixed, unless_mixed, not_mixed, listed_roles, role_edges, exclusive_pairs}
 use Rattle.question_text.specs.Tables.{a_condition, a_named_range, a_range, the_admin, the_condition, the_range, not_mixed_rule, not_wide, an_assign_rule, a_revoke_rule, tables, assign_rules, revoke_rules, a_profile, profiles, a_goal_condition, not_wide_goal, a_goal, may_be_goal, the_goal}
 use Rattle.question_text.specs.Documents.{known_keys, question, if_toml, document}
-use Rattle.question_text.proofs.RoleLemmas.{listed_roles}
 use Rattle.question_text.proofs.OutcomeLemmas.{Sole, sole_gives, sole_fails, sole_fails_if, sole_chain, sole_entries, sole_of_kind}
 
 -- keys
@@ -117,12 +116,12 @@ sole_listed most read separate admins key table each =
 
 sole_role_edges : (separate : Bool) (admins : List ℕ) (names : List (List ℕ)) (table : Members) → Sole (role_edges separate admins names table)
 sole_role_edges separate admins names table =
-    sole_chain (listed_edges separate admins names table) _ (sole_listed MOST_EDGES (an_edge names) separate admins (codes "edges") table (sole_an_edge names))
+    sole_chain (listed_roles MOST_EDGES (an_edge names) separate admins (codes "edges") table) _ (sole_listed MOST_EDGES (an_edge names) separate admins (codes "edges") table (sole_an_edge names))
     (λ edges. sole_chain (is_order names edges) _ (sole_is_order names edges) (λ done. sole_gives edges))
 
 sole_exclusive_pairs : (version : ℕ) (separate : Bool) (admins : List ℕ) (names : List (List ℕ)) (table : Members) → Sole (exclusive_pairs version separate admins names table)
 sole_exclusive_pairs version separate admins names table =
-    sole_chain _ (λ fits. listed_pairs separate admins names table) (sole_fails_if _ _)
+    sole_chain _ (λ fits. listed_roles MOST_PAIRS (a_pair names) separate admins (codes "exclusive") table) (sole_fails_if _ _)
     (λ fits. sole_listed MOST_PAIRS (a_pair names) separate admins (codes "exclusive") table (sole_a_pair names))
 
 -- tables

@@ -9,4 +9,3 @@ pub mod Rules
 pub mod Answers
 pub mod Views
 pub mod Steps
-pub mod Texts

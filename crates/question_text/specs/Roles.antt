@@ -91,28 +91,21 @@ abbrev pub not_mixed : Bool → List ℕ → List ℕ → List (ℕ × ℕ) → 
 not_mixed false admins path list = gives tt
 not_mixed true admins path list = unless_mixed path (position (is_mixed admins) list)
 
-abbrev pub listed_edges : Bool → List ℕ → List (List ℕ) → Members → Outcome (List (ℕ × ℕ))
-listed_edges separate admins names table = do
-  list ← optional as_list [] table [] (codes "edges")
-  few ← at_most MOST_EDGES (codes "edges") list
-  edges ← entries (an_edge names) (codes "edges") list
-  apart ← not_mixed separate admins (codes "edges") edges
-  gives edges
+-- a list of pairs of roles under a key, each read alike: it isn't too long, and none is mixed
+abbrev pub listed_roles : ℕ → (List ℕ → Data → Outcome (ℕ × ℕ)) → Bool → List ℕ → List ℕ → Members → Outcome (List (ℕ × ℕ))
+listed_roles most read separate admins key table = do
+  list ← optional as_list [] table [] key
+  few ← at_most most key list
+  roles ← entries read key list
+  apart ← not_mixed separate admins key roles
+  gives roles
 
 -- `edges`
 abbrev pub role_edges : Bool → List ℕ → List (List ℕ) → Members → Outcome (List (ℕ × ℕ))
 role_edges separate admins names table = do
-  edges ← listed_edges separate admins names table
+  edges ← listed_roles MOST_EDGES (an_edge names) separate admins (codes "edges") table
   done ← is_order names edges
   gives edges
-
-abbrev pub listed_pairs : Bool → List ℕ → List (List ℕ) → Members → Outcome (List (ℕ × ℕ))
-listed_pairs separate admins names table = do
-  list ← optional as_list [] table [] (codes "exclusive")
-  few ← at_most MOST_PAIRS (codes "exclusive") list
-  pairs ← entries (a_pair names) (codes "exclusive") list
-  apart ← not_mixed separate admins (codes "exclusive") pairs
-  gives pairs
 
 abbrev pub is_there : Option Data → Bool
 is_there None = false
@@ -122,4 +115,4 @@ is_there (Some d) = true
 abbrev pub exclusive_pairs : ℕ → Bool → List ℕ → List (List ℕ) → Members → Outcome (List (ℕ × ℕ))
 exclusive_pairs version separate admins names table = do
   fits ← fails_if ((version == 1) && is_there (get_member (codes "exclusive") table)) (wrong_kind (codes "exclusive"))
-  listed_pairs separate admins names table
+  listed_roles MOST_PAIRS (a_pair names) separate admins (codes "exclusive") table

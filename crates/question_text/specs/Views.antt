@@ -13,9 +13,9 @@ use Rattle.question_text.specs.Keys.{list_of}
 use Rattle.question_text.specs.Steps.{HeadValue, RolesValue, RulesValue}
 
 -- the entries of a list; of an absent one none
-abbrev pub listed : Option (Bor (Vec Value Global)) → List Data
-listed None = []
-listed (Some list) = list_of (array_view list.now)
+abbrev pub entries_of : Option (Bor (Vec Value Global)) → List Data
+entries_of None = []
+entries_of (Some list) = list_of (array_view list.now)
 
 abbrev pub head_view : Head → HeadValue
 head_view head = record { version = head.version; separate = head.separate }

@@ -12,7 +12,7 @@ ghost use Rattle.question_text.specs.Answers.{Answers};
 
 use crate::keys::{at_most, entry_path, filled_list, of_kind, value_at};
 use crate::question_error::QuestionError;
-use crate::rules::the_condition;
+use crate::rules::a_condition;
 use arbac_policy::Cond;
 use arbac_rules::{MOST_CONJUNCTS, width_of};
 use cond_text::MOST_TERMS;
@@ -32,7 +32,7 @@ fn condition_of(
     ensures { Answers term_of (a_goal_condition order.now.names path.now (view value.now)) result }
 {
     let text = of_kind(alloc, value.as_str(), path)?;
-    the_condition(alloc, order, path, text)
+    a_condition(alloc, order, path, text)
 }
 
 fn each_condition(alloc: Global, order: &Order, list: &Array) -> Result<Vec<Cond>, QuestionError>

@@ -9,7 +9,7 @@ ghost use Rattle.question_text.specs.Keys.{key_of, entry_of, toml_of, list_of, a
 ghost use Rattle.question_text.specs.Keys.{of_kind as kind, required, optional, knows_only as knows, at_most as few};
 ghost use Rattle.question_text.specs.Documents.{if_toml};
 ghost use Rattle.question_text.specs.Answers.{Answers};
-ghost use Rattle.question_text.specs.Views.{listed};
+ghost use Rattle.question_text.specs.Views.{entries_of};
 
 use crate::MOST_OF_PROFILE;
 use crate::question_error::QuestionError;
@@ -168,7 +168,7 @@ pub fn optional_list<'t>(
     path: &str,
     key: &str,
 ) -> Result<Option<&'t Array>, QuestionError>
-    ensures { Answers listed (optional as_list [] (table_view table.now) path.now key.now) result }
+    ensures { Answers entries_of (optional as_list [] (table_view table.now) path.now key.now) result }
 {
     match value_at(table, key) {
         None => Ok(None),

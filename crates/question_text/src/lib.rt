@@ -1,9 +1,8 @@
-//! Question documents: a policy, profiles of users and a goal, read from TOML and written.
+//! Question documents: a policy, profiles of users and a goal, read from TOML.
 #![tactic(auto)]
 
 mod goals;
 mod keys;
-mod pieces;
 mod profiles;
 mod question;
 mod question_error;
@@ -12,14 +11,10 @@ mod roles;
 mod rules;
 #[cfg(test)]
 mod tests;
-mod writing;
-#[cfg(test)]
-mod writing_tests;
 
 pub use question::Question;
 pub use question_error::QuestionError;
 pub use reading::read_question;
-pub use writing::write_question;
 
 /// The greatest number of exclusive pairs of a document.
 pub const MOST_PAIRS: usize = 1_000;

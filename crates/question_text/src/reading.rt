@@ -1,6 +1,6 @@
 //! Reading question documents.
 
-ghost use Rattle.std.specs.Prelude.{◌≡◌, Ok, Err, IfOk, IfErr};
+ghost use Rattle.std.specs.Prelude.{◌≡◌, Result, Ok, Err, IfOk, IfErr};
 ghost use Rattle.toml.specs.View.{table_view};
 ghost use Rattle.arbac_policy.specs.Rules.{IsPolicy, AreCountable, policy_of as rules_of};
 ghost use Rattle.question_text.specs.Outcomes.{Fault};
@@ -63,6 +63,7 @@ pub struct Rules {
     pub revokep: Vec<CanRevoke>,
 }
 
+/// Reads the keys before the roles.
 fn read_head(alloc: Global, table: &Table) -> Result<Head, QuestionError>
     ensures { Answers head_view (the_head (table_view table.now)) result }
 {
@@ -72,6 +73,7 @@ fn read_head(alloc: Global, table: &Table) -> Result<Head, QuestionError>
     Ok(Head { version, separate })
 }
 
+/// Reads the keys of roles, edges and exclusive pairs.
 fn read_roles(alloc: Global, head: &Head, table: &Table) -> Result<Roles, QuestionError>
     ensures { Answers roles_view (the_roles (head_view head.now) (table_view table.now)) result }
 {
@@ -87,6 +89,7 @@ fn read_roles(alloc: Global, head: &Head, table: &Table) -> Result<Roles, Questi
     })
 }
 
+/// Reads the keys of administrative rules.
 fn read_rules(
     alloc: Global,
     separate: bool,
@@ -127,6 +130,7 @@ fn policy_of(order: Order, rules: Rules, exclusive: Vec<(u16, u16)>) -> Policy
     }
 }
 
+/// Reads all keys, group by group.
 fn read_table(alloc: Global, table: &Table, need_goal: bool) -> Result<Question, QuestionError>
     ensures { Answers plain_of (grouped need_goal (table_view table.now)) result }
 {
@@ -149,6 +153,7 @@ fn read_table(alloc: Global, table: &Table, need_goal: bool) -> Result<Question,
     })
 }
 
+/// Reads the bytes as TOML, and then its keys.
 fn read(alloc: Global, bytes: &[u8], need_goal: bool) -> Result<Question, QuestionError>
     ensures { Answers plain_of (document need_goal bytes.now) result }
 {
@@ -168,6 +173,7 @@ pub fn read_question(
     ensures fault { IfErr result (λ e. IsToldBy (document need_goal bytes.now) (fault_of e)) }
     ensures only { (q : QuestionValue) → document need_goal bytes.now (Ok q) → Reads result q }
     ensures told { (fault : Fault) → document need_goal bytes.now (Err fault) → Tells result fault }
+    ensures one { (left right : Result QuestionValue Fault) → document need_goal bytes.now left → document need_goal bytes.now right → left ≡ right }
 {
     read(alloc, bytes, need_goal)
 }

@@ -5,11 +5,11 @@ ghost use Rattle.toml.specs.View.{table_view, array_view, view};
 ghost use Rattle.role_order.specs.Names.{texts};
 ghost use Rattle.role_order.specs.Refusals.{IsOrder};
 ghost use Rattle.question_text.specs.Keys.{entries, list_of, as_two_different_texts};
-ghost use Rattle.question_text.specs.Roles.{a_text, a_role, an_edge, a_pair, is_order, listed_edges};
+ghost use Rattle.question_text.specs.Roles.{a_text, a_role, an_edge, a_pair, is_order, listed_roles};
 ghost use Rattle.question_text.specs.Roles.{role_named as named, role_set as set_of, role_names as names_of, admin_list as admins_list, admin_roles as admins_of};
-ghost use Rattle.question_text.specs.Roles.{both_roles as both, is_mixed as mixed, not_mixed as apart, role_edges as edges_of, listed_pairs as pairs_of, exclusive_pairs as exclusive_of};
+ghost use Rattle.question_text.specs.Roles.{both_roles as both, is_mixed as mixed, not_mixed as apart, role_edges as edges_of, exclusive_pairs as exclusive_of};
 ghost use Rattle.question_text.specs.Answers.{Answers};
-ghost use Rattle.question_text.specs.Views.{listed};
+ghost use Rattle.question_text.specs.Views.{entries_of};
 
 use crate::MOST_PAIRS;
 use crate::keys::{
@@ -129,12 +129,13 @@ pub fn role_names(alloc: Global, table: &Table) -> Result<Order, QuestionError>
     order_of(alloc, names, Vec::new(alloc))
 }
 
+/// The list of administrative roles, which must be there where they are kept separate.
 fn admin_list<'t>(
     alloc: Global,
     separate: bool,
     table: &'t Table,
 ) -> Result<Option<&'t Array>, QuestionError>
-    ensures { Answers listed (admins_list separate (table_view table.now)) result }
+    ensures { Answers entries_of (admins_list separate (table_view table.now)) result }
 {
     if separate {
         Ok(Some(required_list(alloc, table, "", "admin_roles")?))
@@ -209,6 +210,7 @@ fn pair_of(
     both_roles(alloc, order, path, texts)
 }
 
+/// The edges of the list, one after another.
 fn each_edge(alloc: Global, order: &Order, list: &Array) -> Result<Vec<(u16, u16)>, QuestionError>
     ensures { Answers (λ edges. edges.items) (entries (an_edge order.now.names) (codes "edges") (list_of (array_view list.now))) result }
 {
@@ -221,6 +223,7 @@ fn each_edge(alloc: Global, order: &Order, list: &Array) -> Result<Vec<(u16, u16
     Ok(edges)
 }
 
+/// The exclusive pairs of the list, one after another.
 fn each_pair(alloc: Global, order: &Order, list: &Array) -> Result<Vec<(u16, u16)>, QuestionError>
     ensures { Answers (λ pairs. pairs.items) (entries (a_pair order.now.names) (codes "exclusive") (list_of (array_view list.now))) result }
 {
@@ -278,7 +281,7 @@ fn edges_listed(
     admins: &RoleSet,
     table: &Table,
 ) -> Result<Vec<(u16, u16)>, QuestionError>
-    ensures { Answers (λ edges. edges.items) (listed_edges separate admins.now order.now.names (table_view table.now)) result }
+    ensures { Answers (λ edges. edges.items) (listed_roles MOST_EDGES (an_edge order.now.names) separate admins.now (codes "edges") (table_view table.now)) result }
 {
     let Some(list) = optional_list(alloc, table, "", "edges")? else {
         return Ok(Vec::new(alloc));
@@ -316,6 +319,7 @@ pub fn role_edges(
     order_of(alloc, names, edges)
 }
 
+/// The exclusive pairs that a document lists.
 fn pairs_listed(
     alloc: Global,
     order: &Order,
@@ -323,7 +327,7 @@ fn pairs_listed(
     admins: &RoleSet,
     table: &Table,
 ) -> Result<Vec<(u16, u16)>, QuestionError>
-    ensures { Answers (λ pairs. pairs.items) (pairs_of separate admins.now order.now.names (table_view table.now)) result }
+    ensures { Answers (λ pairs. pairs.items) (listed_roles MOST_PAIRS (a_pair order.now.names) separate admins.now (codes "exclusive") (table_view table.now)) result }
 {
     let Some(list) = optional_list(alloc, table, "", "exclusive")? else {
         return Ok(Vec::new(alloc));

@@ -10,7 +10,7 @@ ghost use Rattle.cond_text.specs.Grammar.{term_count};
 ghost use Rattle.policy_text.specs.Runs.{plain_rule};
 ghost use Rattle.question_text.specs.Outcomes.{fails_if, mixed_role};
 ghost use Rattle.question_text.specs.Keys.{list_of, entries};
-ghost use Rattle.question_text.specs.Tables.{a_condition, a_range, is_mixed_rule};
+ghost use Rattle.question_text.specs.Tables.{a_condition as condition_text, a_range as range_text, is_mixed_rule};
 ghost use Rattle.question_text.specs.Tables.{the_admin as admin_of, the_condition as condition_of, the_range as range_of, names_some as some_named, not_wide as narrow, not_mixed_rule};
 ghost use Rattle.question_text.specs.Tables.{an_assign_rule as assign_rule_of, a_revoke_rule as revoke_rule_of, assign_rules as assign_rules_of, revoke_rules as revoke_rules_of};
 ghost use Rattle.question_text.specs.Parts.{assign_parts as assign_parts_of, assign_tests as assign_tests_of, revoke_parts as revoke_parts_of};
@@ -31,13 +31,13 @@ use toml::value::Array;
 use toml::{Table, Value};
 
 /// The condition that the text at a path is.
-pub fn the_condition(
+pub fn a_condition(
     alloc: Global,
     order: &Order,
     path: &str,
     text: &str,
 ) -> Result<Cond, QuestionError>
-    ensures answers { Answers term_of (a_condition order.now.names path.now text.now) result }
+    ensures answers { Answers term_of (condition_text order.now.names path.now text.now) result }
     ensures known { IfOk result (λ cond. IsKnown (length order.now.names) (term_of cond)) }
     ensures few { IfOk result (λ cond. term_count (term_of cond) ≤ MOST_TERMS) }
 {
@@ -56,8 +56,8 @@ pub fn the_condition(
 }
 
 /// The range between two roles that the text at a path is.
-fn the_range(alloc: Global, order: &Order, path: &str, text: &str) -> Result<Range, QuestionError>
-    ensures answers { Answers (λ range. range) (a_range order.now.names path.now text.now) result }
+fn a_range(alloc: Global, order: &Order, path: &str, text: &str) -> Result<Range, QuestionError>
+    ensures answers { Answers (λ range. range) (range_text order.now.names path.now text.now) result }
     ensures known { IfOk result (IsKnownRange (length order.now.names)) }
 {
     let Some(named) = read_range(text) else {
@@ -85,7 +85,7 @@ fn the_admin(alloc: Global, order: &Order, rule: &Table, path: &str) -> Result<u
 }
 
 /// The condition of a rule.
-fn condition_in(
+fn the_condition(
     alloc: Global,
     order: &Order,
     rule: &Table,
@@ -96,16 +96,16 @@ fn condition_in(
 {
     let text = required_text(alloc, rule, path, "condition")?;
     let key = key_path(alloc, path, "condition")?;
-    the_condition(alloc, order, key.as_str(), text)
+    a_condition(alloc, order, key.as_str(), text)
 }
 
 /// The range of a rule.
-fn range_in(alloc: Global, order: &Order, rule: &Table, path: &str) -> Result<Range, QuestionError>
+fn the_range(alloc: Global, order: &Order, rule: &Table, path: &str) -> Result<Range, QuestionError>
     ensures { Answers (λ range. range) (range_of order.now.names (table_view rule.now) path.now) result }
 {
     let text = required_text(alloc, rule, path, "range")?;
     let key = key_path(alloc, path, "range")?;
-    the_range(alloc, order, key.as_str(), text)
+    a_range(alloc, order, key.as_str(), text)
 }
 
 /// Whether the condition names a role of the set.
@@ -167,8 +167,8 @@ fn assign_parts(
 {
     knows_only(alloc, &["admin", "condition", "range"], rule, path)?;
     let admin = the_admin(alloc, order, rule, path)?;
-    let cond = condition_in(alloc, order, rule, path)?;
-    let range = range_in(alloc, order, rule, path)?;
+    let cond = the_condition(alloc, order, rule, path)?;
+    let range = the_range(alloc, order, rule, path)?;
     Ok(CanAssign { admin, cond, range })
 }
 
@@ -217,7 +217,7 @@ fn revoke_parts(
 {
     knows_only(alloc, &["admin", "range"], rule, path)?;
     let admin = the_admin(alloc, order, rule, path)?;
-    let range = range_in(alloc, order, rule, path)?;
+    let range = the_range(alloc, order, rule, path)?;
     Ok(CanRevoke { admin, range })
 }
 

@@ -4,13 +4,14 @@ mod answers;
 mod documents;
 
 use crate::{MOST_PAIRS, MOST_PROFILES, Question, QuestionError, read_question};
-use answers::{BEGUN, BEGUN_2, BEHIND, BEHIND_2, WHOLE, WIDE};
+use answers::{BEGUN, BEGUN_2, BEGUN_APART, BEHIND, BEHIND_2, BEHIND_APART, WHOLE, WIDE};
 use arbac_policy::Cond;
 use cond_text::CondError;
 use documents::{DEPARTMENT, EXCLUSIVE, FREE, MIXED};
 use policy_text::{MOST_EDGES, MOST_GOALS, MOST_RULES};
 use role_order::{MOST_ROLES, OrderError, Range};
 use std::alloc::{AllocError, Global};
+use std::process::Abort;
 use std::test::Fail;
 
 /// The lists with a limit, and their limits.
@@ -70,20 +71,28 @@ fn answer(alloc: Global, text: &[u8], need_goal: bool) -> Result<String, AllocEr
     }
 }
 
+/// Behind the beginning, each text has its answer.
+fn each_answered(
+    rt: &impl Abort,
+    alloc: Global,
+    begun: &str,
+    rows: &[(&str, &str)],
+) -> Result<(), AllocError> {
+    for (rest, told) in rows {
+        let text = format!(in alloc; "{begun}{rest}")?;
+        let line = answer(alloc, text.as_bytes(), false)?;
+        assert_eq!(rt; line.as_str(), *told, "{rest}");
+    }
+    Ok(())
+}
+
 #[test]
 fn a_document_is_read_or_its_first_fault_is_told(rt: HostRuntime) -> Result<(), Fail> {
     let alloc = rt.alloc();
-    for (text, told) in &WHOLE {
-        let line = answer(alloc, text.as_bytes(), false)?;
-        assert_eq!(rt; line.as_str(), *told, "{text}");
-    }
-    for (begun, rows) in [(BEGUN, BEHIND.as_slice()), (BEGUN_2, BEHIND_2.as_slice())] {
-        for (rest, told) in rows {
-            let text = format!(in alloc; "{begun}{rest}")?;
-            let line = answer(alloc, text.as_bytes(), false)?;
-            assert_eq!(rt; line.as_str(), *told, "{rest}");
-        }
-    }
+    each_answered(&rt, alloc, "", &WHOLE)?;
+    each_answered(&rt, alloc, BEGUN, &BEHIND)?;
+    each_answered(&rt, alloc, BEGUN_2, &BEHIND_2)?;
+    each_answered(&rt, alloc, BEGUN_APART, &BEHIND_APART)?;
     let not_utf8 = answer(alloc, b"version = 1 # \xff\n", false)?;
     assert_eq!(rt; not_utf8.as_str(), "NotToml");
     let marked = answer(alloc, b"\xef\xbb\xbfversion = 1\n", false)?;
@@ -139,12 +148,13 @@ fn a_list_is_counted_before_its_entries_are_read(rt: HostRuntime) -> Result<(), 
     Ok(())
 }
 
-/// A document with so many roles.
-fn with_roles(alloc: Global, count: usize) -> Result<String, AllocError> {
+/// A document with so many roles, and behind them this entry.
+fn with_roles(alloc: Global, count: usize, last: &str) -> Result<String, AllocError> {
     let mut text = String::from_str(alloc, "version = 1\nseparate = false\nroles = [")?;
     for role in 0..count {
         text.push_str(format!(in alloc; "\"r{role}\", ")?.as_str())?;
     }
+    text.push_str(last)?;
     text.push_str("]\n")?;
     Ok(text)
 }
@@ -152,21 +162,44 @@ fn with_roles(alloc: Global, count: usize) -> Result<String, AllocError> {
 #[test]
 fn the_251st_role_is_too_many(rt: HostRuntime) -> Result<(), Fail> {
     let alloc = rt.alloc();
-    let text = with_roles(alloc, MOST_ROLES)?;
-    let line = answer(alloc, text.as_bytes(), false)?;
-    assert_eq!(rt; line.as_str(), "read");
-    let text = with_roles(alloc, MOST_ROLES + 1)?;
-    let line = answer(alloc, text.as_bytes(), false)?;
-    assert_eq!(rt; line.as_str(), "TooManyRoles 251");
+    for (last, told) in [
+        ("", "read"),
+        ("\"a\"", "TooManyRoles 251"),
+        ("1", "WrongKind roles.250"),
+    ] {
+        let text = with_roles(alloc, MOST_ROLES, last)?;
+        let line = answer(alloc, text.as_bytes(), false)?;
+        assert_eq!(rt; line.as_str(), told);
+    }
     Ok(())
 }
 
 #[test]
 fn a_condition_may_have_1024_conjuncts(rt: HostRuntime) -> Result<(), Fail> {
     let alloc = rt.alloc();
-    for (more, told) in [("", "read"), (" and (a or b)", "TooWide can_assign.0 2048")] {
+    for (key, more, range, told) in [
+        ("can_assign", "", "\"[a,a]\"", "read"),
+        (
+            "can_assign",
+            " and (a or b)",
+            "\"[a,a]\"",
+            "TooWide can_assign.0 2048",
+        ),
+        (
+            "can_assignp",
+            " and (a or b)",
+            "\"[a,a]\"",
+            "TooWide can_assignp.0 2048",
+        ),
+        (
+            "can_assign",
+            " and (a or b)",
+            "1",
+            "WrongKind can_assign.0.range",
+        ),
+    ] {
         let text = format!(in alloc;
-            "{BEGUN}can_assign = [{{ admin = \"a\", condition = \"{WIDE}{more}\", range = \"[a,a]\" }}]"
+            "{BEGUN}{key} = [{{ admin = \"a\", condition = \"{WIDE}{more}\", range = {range} }}]"
         )?;
         let line = answer(alloc, text.as_bytes(), false)?;
         assert_eq!(rt; line.as_str(), told);

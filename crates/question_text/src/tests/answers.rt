@@ -3,7 +3,7 @@
 use super::documents::{DEPARTMENT, EXCLUSIVE, FREE, MIXED};
 
 /// Whole documents, each with the answer where no goal is needed.
-pub const WHOLE: [(&str, &str); 48] = [
+pub const WHOLE: [(&str, &str); 41] = [
     (MIXED, "read"),
     (EXCLUSIVE, "read"),
     (FREE, "read"),
@@ -64,7 +64,7 @@ pub const WHOLE: [(&str, &str); 48] = [
         "version = 1\nseparate = true\nroles = [\"a\", \"b\", \"a\"]\n",
         "SameName 0 2",
     ),
-    // Administrative roles, and what keeps them apart.
+    // Administrative roles.
     (
         "version = 1\nseparate = true\nroles = [\"a\"]\nedges = 1\n",
         "Missing admin_roles",
@@ -86,40 +86,12 @@ pub const WHOLE: [(&str, &str); 48] = [
         "read",
     ),
     (
-        "version = 1\nseparate = true\nroles = [\"a\", \"b\"]\nadmin_roles = [\"a\"]\nedges = [[\"b\", \"b\"], [\"b\", \"a\"]]\n",
-        "MixedRole edges.1",
-    ),
-    (
-        "version = 1\nseparate = true\nroles = [\"a\", \"b\"]\nadmin_roles = [\"a\"]\nedges = [[\"a\", \"b\"], [\"b\"]]\n",
-        "WrongKind edges.1",
-    ),
-    (
         "version = 2\nseparate = true\nroles = [\"a\", \"b\"]\nadmin_roles = [\"b\"]\nexclusive = [[\"a\", \"b\"]]\ncan_assign = 1\n",
         "MixedRole exclusive.0",
     ),
     (
-        "version = 1\nseparate = true\nroles = [\"a\", \"b\"]\nadmin_roles = [\"a\"]\ncan_assign = [{ admin = \"b\", condition = \"any\", range = \"[b,b]\" }]\n",
-        "MixedRole can_assign.0",
-    ),
-    (
-        "version = 1\nseparate = true\nroles = [\"a\", \"b\"]\nadmin_roles = [\"a\"]\ncan_assignp = [{ admin = \"a\", condition = \"b or not a\", range = \"[b,b]\" }]\n",
-        "MixedRole can_assignp.0",
-    ),
-    (
-        "version = 1\nseparate = true\nroles = [\"a\", \"b\"]\nadmin_roles = [\"a\"]\ncan_revoke = [{ admin = \"a\", range = \"[b,b]\" }, { admin = \"a\", range = \"[b,a]\" }]\n",
-        "MixedRole can_revoke.1",
-    ),
-    (
-        "version = 1\nseparate = true\nroles = [\"a\", \"b\"]\nadmin_roles = [\"a\"]\ncan_revokep = [{ admin = \"a\", range = \"[a,b)\" }]\nprofile = 1\n",
-        "MixedRole can_revokep.0",
-    ),
-    (
-        "version = 1\nseparate = true\nroles = [\"a\", \"b\"]\nadmin_roles = [\"a\"]\ncan_assign = [{ admin = \"b\", condition = \"(a or b) and (a or b) and (a or b) and (a or b) and (a or b) and (a or b) and (a or b) and (a or b) and (a or b) and (a or b) and (a or b)\", range = \"[b,b]\" }]\n",
-        "TooWide can_assign.0 2048",
-    ),
-    (
-        "version = 1\nseparate = true\nroles = [\"a\", \"b\"]\nadmin_roles = [\"a\"]\ncan_assign = [{ admin = \"a\", condition = \"b\", range = \"[b,b]\" }]\nprofile = [{ roles = [\"a\", \"b\"] }]\ngoal = [\"a and b\"]\n",
-        "read",
+        "version = 2\nseparate = true\nroles = [\"a\", \"b\"]\nadmin_roles = [\"a\"]\nexclusive = [[\"a\", \"b\"], [\"b\"]]\n",
+        "WrongKind exclusive.1",
     ),
 ];
 
@@ -135,7 +107,7 @@ pub const WIDE: &str =
 
 /// What follows the beginning of a document of the first version, with the answer where no goal is
 /// needed.
-pub const BEHIND: [(&str, &str); 82] = [
+pub const BEHIND: [(&str, &str); 85] = [
     ("", "read"),
     ("admin_roles = [\"z\"]", "UnknownRole admin_roles.0"),
     ("admin_roles = [\"a\"]\nedges = [[\"a\", \"b\"]]", "read"),
@@ -256,6 +228,14 @@ pub const BEHIND: [(&str, &str); 82] = [
         "WrongKind can_revoke.0.range",
     ),
     (
+        "can_revoke = [{ admin = \"a\", range = \"(a,a]\" }]",
+        "read",
+    ),
+    (
+        "can_revoke = [{ admin = \"a\", range = \"[,a]\" }]",
+        "WrongKind can_revoke.0.range",
+    ),
+    (
         "can_assignp = [{ admin = \"b\", condition = \"not any\" }]",
         "Cond can_assignp.0.condition Unexpected 4",
     ),
@@ -289,6 +269,10 @@ pub const BEHIND: [(&str, &str); 82] = [
     ),
     (
         "profile = [{ roles = [], most = \"all\" }]",
+        "WrongKind profile.0.most",
+    ),
+    (
+        "profile = [{ roles = [], most = \"Any\" }]",
         "WrongKind profile.0.most",
     ),
     (
@@ -366,4 +350,61 @@ pub const BEHIND_2: [(&str, &str); 11] = [
         "read",
     ),
     ("edges = [[\"b\", \"b\"]]\nexclusive = 1", "Cycle 0"),
+];
+
+/// What documents begin with here that keep the administrative role `a` apart.
+pub const BEGUN_APART: &str =
+    "version = 1\nseparate = true\nroles = [\"a\", \"b\"]\nadmin_roles = [\"a\"]\n";
+
+/// The same for those.
+pub const BEHIND_APART: [(&str, &str); 13] = [
+    (
+        "edges = [[\"b\", \"b\"], [\"b\", \"a\"]]",
+        "MixedRole edges.1",
+    ),
+    ("edges = [[\"a\", \"b\"], [\"b\"]]", "WrongKind edges.1"),
+    (
+        "can_assign = [{ admin = \"b\", condition = \"any\", range = \"[b,b]\" }]",
+        "MixedRole can_assign.0",
+    ),
+    (
+        "can_assignp = [{ admin = \"a\", condition = \"b or not a\", range = \"[b,b]\" }]",
+        "MixedRole can_assignp.0",
+    ),
+    (
+        "can_revoke = [{ admin = \"a\", range = \"[b,b]\" }, { admin = \"a\", range = \"[b,a]\" }]",
+        "MixedRole can_revoke.1",
+    ),
+    (
+        "can_revokep = [{ admin = \"a\", range = \"[a,b)\" }]\nprofile = 1",
+        "MixedRole can_revokep.0",
+    ),
+    (
+        "can_assign = [{ admin = \"b\", condition = \"(a or b) and (a or b) and (a or b) and (a or b) and (a or b) and (a or b) and (a or b) and (a or b) and (a or b) and (a or b) and (a or b)\", range = \"[b,b]\" }]",
+        "TooWide can_assign.0 2048",
+    ),
+    (
+        "can_assign = [{ admin = \"a\", condition = \"b\", range = \"[b,b]\" }]\nprofile = [{ roles = [\"a\", \"b\"] }]\ngoal = [\"a and b\"]",
+        "read",
+    ),
+    (
+        "edges = [[\"a\", \"b\"], [\"b\", \"a\"]]",
+        "MixedRole edges.0",
+    ),
+    (
+        "can_revoke = [{ admin = \"b\", range = \"[b,b]\" }]",
+        "MixedRole can_revoke.0",
+    ),
+    (
+        "can_assign = [{ admin = \"a\", condition = \"b\", range = \"[b,a]\" }]",
+        "MixedRole can_assign.0",
+    ),
+    (
+        "can_assign = [{ admin = \"a\", condition = \"a and b\", range = \"[b,b]\" }]",
+        "MixedRole can_assign.0",
+    ),
+    (
+        "can_assign = [{ admin = \"b\", condition = \"any\", range = \"[b,b]\" }, 1]",
+        "MixedRole can_assign.0",
+    ),
 ];

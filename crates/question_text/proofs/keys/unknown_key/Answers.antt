@@ -1,4 +1,4 @@
-use Rattle.std.proofs.Common.{arith, ◌≡◌, ◌∷◌, ◌∙◌, sym, map}
+use Rattle.std.proofs.Common.{arith, ◌≡◌, ◌∷◌, ◌∙◌, sym, ap, map, Some}
 use Rattle.std.specs.Prelude.{string_bytes}
 use Rattle.std.specs.Str.{bytes_eq}
 use Rattle.std.proofs.lemmas.Grind.{common_steps}
@@ -13,7 +13,7 @@ returns-then-not-is_known c =
     let iter : c.loop-key.key-iterator ≡ e ∷ c.next.new.self = grind (arith, common_steps) in
     let known = map (λ (key : _). key.now) c.args.known.now in
     let unknown = any_mapped (bytes_eq (string_bytes e.0)) (λ (key : _). key.now) c.args.known.now ∙ rw c.as_str-name.ensures.value at (sym c.is_known.ensures ∙ c.if-not-is_known.true) in
-    rw c.as_str-name.ensures.value (sym (stops_unknown known (string_bytes e.0) (view e.1) (members_view c.next.new.self) unknown) ∙ rw iter at c.loop-key.invariant.2)
+    ap Some c.as_str-name.ensures.value ∙ (sym (stops_unknown known (string_bytes e.0) (view e.1) (members_view c.next.new.self) unknown) ∙ rw iter at c.loop-key.invariant.2)
 
 pub loop-key-preserved : goal.loop-key-preserved
 loop-key-preserved c =

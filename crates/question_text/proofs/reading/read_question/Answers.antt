@@ -1,4 +1,5 @@
 use Rattle.question_text.proofs.ReadLemmas.{value_of, kept_of, error_of, only_of, told_of}
+use Rattle.question_text.proofs.SoleLemmas.{sole_document}
 use Rattle.question_text.proofs.reading.read_question.Goals as goal
 
 pub returns-clause-value : goal.returns-clause-value
@@ -15,3 +16,6 @@ returns-clause-only c = only_of c.args.need_goal c.args.bytes.now c.read.result 
 
 pub returns-clause-told : goal.returns-clause-told
 returns-clause-told c = told_of c.args.need_goal c.args.bytes.now c.read.result c.read.ensures
+
+pub returns-clause-one : goal.returns-clause-one
+returns-clause-one c = sole_document c.args.need_goal c.args.bytes.now

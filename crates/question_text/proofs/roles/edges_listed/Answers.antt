@@ -2,10 +2,10 @@ use Rattle.std.specs.Prelude.{codes}
 use Rattle.toml.specs.View.{table_view, array_view}
 use Rattle.policy_text.specs.declared.TheConstants.{MOST_EDGES}
 use Rattle.question_text.specs.Keys.{list_of}
-use Rattle.question_text.specs.Roles.{an_edge}
+use Rattle.question_text.specs.Roles.{an_edge, listed_roles}
 use Rattle.question_text.specs.Answers.{fault_of}
 use Rattle.question_text.proofs.OutcomeLemmas.{answers_exit}
-use Rattle.question_text.proofs.RoleLemmas.{listed_roles, many_told, entry_told, mixed_told, all_listed, none_listed}
+use Rattle.question_text.proofs.RoleLemmas.{many_told, entry_told, mixed_told, all_listed, none_listed}
 use Rattle.question_text.proofs.roles.edges_listed.Goals as goal
 
 pub returns-in_default : goal.returns-in_default

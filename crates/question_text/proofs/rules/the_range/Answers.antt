@@ -1,28 +1,11 @@
-use Rattle.std.proofs.Common.{refl, inl, inr}
-use Rattle.policy_text.specs.Views.{range_view}
-use Rattle.question_text.specs.Roles.{role_named}
+use Rattle.std.proofs.Common.{◌∙◌}
+use Rattle.std.specs.Prelude.{codes}
+use Rattle.toml.specs.View.{table_view}
 use Rattle.question_text.specs.Tables.{a_range}
-use Rattle.question_text.proofs.TableLemmas.{stops}
+use Rattle.question_text.proofs.TableLemmas.{behind_text}
 use Rattle.question_text.proofs.rules.the_range.Goals as goal
 
-pub returns-in_err-low-clause-answers : goal.returns-in_err-low-clause-answers
-returns-in_err-low-clause-answers c =
-    let written = range_view c.in-Some.named in
-    let found = c.in-Some.ensures.found in
-    let names = c.args.order.now.names in
-    stops _ (role_named names c.args.path.now written.low) (a_range names c.args.path.now c.args.text.now) _ _ c.from_residual-in_err-low.ensures.1
-    (λ fault h. inr (written, inl (written, found.0, found.1, refl), inl (fault, h, refl))) c.in_err-low.ensures.role
-
-pub returns-in_err-high-clause-answers : goal.returns-in_err-high-clause-answers
-returns-in_err-high-clause-answers c =
-    let written = range_view c.in-Some.named in
-    let found = c.in-Some.ensures.found in
-    let names = c.args.order.now.names in
-    stops _ (role_named names c.args.path.now written.high) (a_range names c.args.path.now c.args.text.now) _ _ c.from_residual-in_err-high.ensures.1
-    (λ fault h. inr (written, inl (written, found.0, found.1, refl), inr (c.in_ok-low.low, c.in_ok-low.ensures.role, inl (fault, h, refl)))) c.in_err-high.ensures.role
-
-pub returns-clause-answers : goal.returns-clause-answers
-returns-clause-answers c =
-    let written = range_view c.in-Some.named in
-    let found = c.in-Some.ensures.found in
-    inr (written, inl (written, found.0, found.1, refl), inr (c.in_ok-low.low, c.in_ok-low.ensures.role, inr (c.in_ok-high.high, c.in_ok-high.ensures.role, refl)))
+pub returns : goal.returns
+returns c =
+    behind_text (λ range. range) (a_range c.args.order.now.names) (table_view c.args.rule.now) c.args.path.now (codes "range") c.in_ok-text.text.now c.as_str.result.now c.a_range.result
+    c.in_ok-text.ensures (c.as_str.ensures.value ∙ c.in_ok-key.ensures) c.a_range.ensures.answers

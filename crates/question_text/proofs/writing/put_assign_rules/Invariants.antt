@@ -1,8 +1,0 @@
-use Rattle.std.proofs.Common.{◌≡◌, ◌++◌, drop, map}
-use Rattle.std.specs.List.{flat_map}
-use Rattle.policy_text.specs.Runs.{plain_rule}
-use Rattle.question_text.specs.Texts.{assign_text}
-use Rattle.question_text.proofs.writing.put_assign_rules.Given as goal
-
-abbrev pub invariant-loop-rule : goal.invariant-loop-rule
-invariant-loop-rule l = l.text.items ++ flat_map (assign_text l.key l.order.names) (drop l.rule-index (map plain_rule l.rules)) ≡ l.initial.text.items ++ flat_map (assign_text l.key l.order.names) (map plain_rule l.rules)

@@ -1,8 +1,0 @@
-use Rattle.std.proofs.Common.{◌∙◌, sym, subst, length, ℕ, List, ◌<◌}
-use Rattle.role_order.specs.Lists.{Each}
-use Rattle.question_text.proofs.BackPartLemmas.{each_below}
-use Rattle.question_text.proofs.writing.put_set_line.Goals as goal
-
-pub put_roles-requires : goal.put_roles-requires
-put_roles-requires c = subst (λ (roles : List ℕ). Each (λ role. role < length c.args.order.now.names) roles) (sym (c.deref.ensures.value ∙ c.in_ok-roles.ensures))
-    (each_below (length c.args.order.now.names) c.args.set.now c.requires.below)

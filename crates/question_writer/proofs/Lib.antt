@@ -1,0 +1,10 @@
+pub mod TightLemmas
+pub mod BlockLemmas
+pub mod ValueLemmas
+pub mod NamedLemmas
+pub mod EntryLemmas
+pub mod BackTableLemmas
+pub mod BackPartLemmas
+pub mod BackLemmas
+pub mod WrittenLemmas
+pub mod PieceLemmas
