@@ -61,12 +61,6 @@ pub drawn_more : (profiles : List Profile) (xs : List ℕ) (i x : ℕ) → slice
     → IsDrawnChoice profiles (take (i + 1) xs)
 drawn_more profiles xs i x e drawn left = subst (IsDrawnChoice profiles) (sym (take_one_more xs i x e)) (drawn_last profiles (take i xs) x drawn left)
 
-pub drawn_none : (profiles : List Profile) → IsDrawnChoice profiles []
-drawn_none profiles = record {
-  places = λ k place e. cc;
-  few = λ place profile most e m. omega arith;
-}
-
 pub spent_of : (profiles : List Profile) (number used : ℕ) (o : Option Profile) → slice_get profiles number ≡ o → has_left o used ≡ false → IsSpent profiles number used
 spent_of profiles number used None e h = inl e
 spent_of profiles number used (Some profile) e h = by_most profile.most refl

@@ -1,5 +1,5 @@
 -- The fields of a record, by their places.
-use Rattle.std.proofs.Common.{ℕ, ◌≡◌, List, [], ◌∷◌, length, Option, Some, None, ap, arith}
+use Rattle.std.proofs.Common.{ℕ, ◌≡◌, List, [], ◌∷◌, length, Option, Some, None, arith}
 use Rattle.std.specs.Prelude.{IfNone}
 use Rattle.csv.specs.Records.{field_at}
 use Rattle.profile_set.specs.Members.{Fields}
@@ -16,6 +16,3 @@ three_are (a ∷ []) kind name role three k n r = absurd (omega arith)
 three_are (a ∷ b ∷ []) kind name role three k n r = absurd (omega arith)
 three_are (a ∷ b ∷ c ∷ []) kind name role three k n r = cc
 three_are (a ∷ b ∷ c ∷ d ∷ more) kind name role three k n r = absurd (omega arith)
-
-pub not_three : (fields : Fields) → (length fields ≡ 3 → ⊥) → (kind name role : List ℕ) → fields ≡ kind ∷ name ∷ role ∷ [] → ⊥
-not_three fields other kind name role e = other (ap length e)

@@ -98,9 +98,6 @@ holders_last : (x m : List ℕ) (ms : List (List ℕ)) → holders x (ms ++ m �
 holders_last x m [] = omega arith
 holders_last x m (n ∷ ns) = let more = holders_last x m ns in omega (arith, more)
 
-pub tally_none : IsTally [] []
-tally_none = record { rise = tt; counted = tt; tallies = λ set. refl }
-
 pub tally_more : (members : List (List ℕ)) (i : ℕ) (set : List ℕ) (ps : List Profile) → slice_get members i ≡ Some set → IsTally (take i members) ps → IsTally (take (i + 1) members) (with_member ps set)
 tally_more members i set ps e h = record {
   rise = rise_with set ps h.rise;

@@ -11,7 +11,7 @@ mod name;
 #[cfg(test)]
 mod tests;
 
-pub use arbac_policy::On;
+pub use arbac_policy::{On, Profile};
 pub use choice::undrawn;
 pub use groups::group;
 pub use member_row::MemberRow;

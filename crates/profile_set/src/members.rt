@@ -156,9 +156,9 @@ fn read(alloc: Global, order: &Order, bytes: &[u8]) -> Result<Vec<MemberRow>, Me
 
 /// The rows of a list of members, or its first fault.
 ///
-/// The text is CSV. Its first record is `kind,name,role`; each other has three fields: `user` or
-/// `permission`, a name, and the name of a role of the order, or nothing where no role is given.
-/// A byte order mark ahead of the first record is passed over.
+/// They are records of CSV, with the header `kind,name,role`. Below it each record says whether
+/// it is of a `user` or of a `permission`, whose name follows, and which role of the order is
+/// given; an empty third field gives none. A byte order mark in front is no part of them.
 pub fn read_members(
     alloc: Global,
     order: &Order,
