@@ -9,10 +9,11 @@ raised count = min (count + 1) (2 ^ 64 - 1)
 abbrev pub Rose : ℕ → ℕ → Type 0
 Rose before now = raised before ≤ now
 
--- the count of faults never falls, and a call that failed made it rise
+-- a call that failed raised the count of faults by one, and any other call left it
 pub record HasCause (before now : ℕ) (failed : Type 0) : Type 0 where
   pub kept : before ≤ now
-  pub rose : failed → Rose before now
+  pub once : failed → now ≡ raised before
+  pub same : ¬ failed → now ≡ before
 
 -- the numbers of the calls of an object that are to fail, how many calls it had, and how many failed
 pub record Plan : Type 0 where

@@ -1,5 +1,5 @@
 -- What a sink takes.
-use Rattle.std.specs.Prelude.{ℕ, ◌≡◌, List, take, Option}
+use Rattle.std.specs.Prelude.{ℕ, ◌≡◌, ◌<◌, List, length, take, Option}
 use Rattle.std.specs.Io.KnownBytes.{append_known, Appends}
 use Rattle.desk_ports.specs.Faults.{Plan}
 
@@ -11,9 +11,9 @@ Took old new bytes = new ≡ append_known old bytes
 abbrev pub TookFront : Option (List ℕ) → Option (List ℕ) → List ℕ → Type 0
 TookFront old new bytes = (count : ℕ) × Took old new (take count bytes)
 
--- what a writer holds grew by a prefix of these bytes, where that is known
+-- what a writer holds grew by a prefix of these bytes, but not by all, where that is known
 abbrev pub AppendsFront : Option (List ℕ) → Option (List ℕ) → List ℕ → Type 0
-AppendsFront old new bytes = (count : ℕ) × Appends old new (take count bytes)
+AppendsFront old new bytes = (count : ℕ) × (count < length bytes) × Appends old new (take count bytes)
 
 -- a sink in memory: the bytes that it took, and which calls fail
 pub record SinkState : Type 0 where

@@ -7,7 +7,7 @@ use std::marker::Model;
 /// The plan of one object, which counts the calls of all its methods together.
 #[derive(Drop)]
 pub struct FaultPlan {
-    /// The numbers of the calls that are to fail, the first call being 1.
+    /// Which calls shall fail, counted from 1.
     fail: Vec<u64>,
     /// How many calls were made. It stays at its last value.
     calls: u64,

@@ -35,7 +35,7 @@ pub trait Shelf {
     /// The text of a name, where the shelf tells it.
     ghost told: { Self → List ℕ → Option (List ℕ) };
 
-    /// The name of the last fetch that answered `Failed`, empty at first.
+    /// The name that was last fetched in vain, by an answer `Failed`; empty before the first such.
     ghost missed: { Self → List ℕ };
 
     /// How often the shelf failed. As a `u64` it stays at its last value.
