@@ -1,4 +1,4 @@
--- Each pre-image of a barrier is covered by it, and no drawn population meets it.
+-- Whatever is wanted before a barrier is covered by it, and no users that can be drawn meet it.
 use Rattle.std.proofs.Common.{ℕ, ◌≡◌, ◌<◌, ◌+◌, List, [], ◌∷◌, ◌++◌, length, Some, arith, zero, suc, sym, ◌∙◌, eqb, Bool, true, false, not, ◌||◌, cond, subst, refl, inl, inr}
 use Rattle.std.specs.Prelude.{slice_get, slice_set, ◌⊎◌, filter}
 use Rattle.std.proofs.lemmas.Bool.{eqb-true, eq-eqb}
@@ -25,7 +25,7 @@ use Rattle.arbac_laws.proofs.ObligationLemmas.{IsAssigning, IsRevoking, in_parts
 use Rattle.arbac_laws.proofs.OrderLemmas.{count}
 use Rattle.role_order.proofs.OrderLemmas.{not_true}
 use Rattle.arbac_laws.proofs.RoleLemmas.{cases_in, less_in}
-use Rattle.arbac_laws.proofs.TargetLemmas.{some_cond}
+use Rattle.arbac_laws.proofs.MapLemmas.{some_cond}
 
 pub in_outside : (count : ℕ) (set : List ℕ) (role : ℕ) → role < count → IsOut set role → IsIn (outside count set) role
 in_outside count set role l o = has_role-filter (λ r. not (has_role set r)) (count_up 0 count) role

@@ -1,4 +1,4 @@
--- A set satisfies a condition exactly where it meets a conjunct.
+-- Conditions are their conjuncts: whoever satisfies the one meets some of the others, and back.
 use Rattle.std.proofs.Common.{ℕ, List, [], ◌∷◌, inl, inr}
 use Rattle.std.specs.Prelude.{◌⊎◌}
 use Rattle.role_order.specs.Graph.{Graph}

@@ -4,7 +4,8 @@ use Rattle.std.specs.Prelude.{◌⊎◌}
 use Rattle.role_order.specs.Lists.{Each, Some_of}
 use Rattle.role_order.specs.Roles.{HaveCommon, IsIn, IsOut, IsWithin, has_role, less_roles}
 use Rattle.arbac_laws.specs.Needs.{Covers, CoversNeed, IsCovered, IsPossible, Meets, MeetsNeed, Need}
-use Rattle.arbac_laws.proofs.ListLemmas.{each_from_get, each_weaker, some_each, some_weaker}
+use Rattle.role_order.proofs.ListLemmas.{each_of}
+use Rattle.arbac_laws.proofs.ListLemmas.{each_weaker, some_each, some_weaker}
 use Rattle.arbac_laws.proofs.MapLemmas.{compose}
 use Rattle.arbac_laws.proofs.RoleLemmas.{cases_in, in_less, less_in, less_out}
 
@@ -63,7 +64,7 @@ covers_itself a = record { hits = each_own a.hits a.hits (λ hit i. i); lacks = 
 
 -- what is met is possible
 pub met_possible : (users : List (List ℕ)) (needs : List Need) → Meets users needs → IsPossible needs
-met_possible users needs f = each_from_get (λ need. Each (λ hit. (role : ℕ) × IsIn hit role × IsOut need.lacks role) need.hits) needs (λ i need is.
+met_possible users needs f = each_of (λ need. Each (λ hit. (role : ℕ) × IsIn hit role × IsOut need.lacks role) need.hits) needs (λ i need is.
     let one = f.each i need is in
     each_weaker (λ hit. HaveCommon hit one.0) (λ hit. (role : ℕ) × IsIn hit role × IsOut need.lacks role)
     (λ hit common. (common.0, common.1, outside need one.0 one.2 common.0 common.2)) need.hits one.2.hits)

@@ -7,12 +7,14 @@ use Rattle.role_order.proofs.SetLemmas.{or_right}
 use Rattle.role_order.specs.Lists.{Each, Some_of}
 use Rattle.role_order.specs.Orders.{IsTotalOrder, set_before}
 use Rattle.role_order.specs.Roles.{AreApart, IsIn, IsOut, IsWithin, has_role, less_roles}
+use Rattle.role_order.proofs.ListLemmas.{each_of}
 use Rattle.role_order.proofs.OrderLemmas.{not_both, not_false, set_order}
 use Rattle.arbac_laws.specs.Needs.{Covers, CoversNeed, IsPossible, IsPossibleNeed, Need}
 use Rattle.arbac_laws.specs.Orders.{need_before}
 use Rattle.arbac_laws.specs.NormalForms.{AreRising, AreSorted, IsNormal, IsNormalNeed, bare_hits, insert_by, insert_once, is_impossible, is_less, least_hits, normal_form, normal_need, sort_by, sort_once}
-use Rattle.arbac_laws.proofs.ListLemmas.{each_is, each_from_get, each_weaker, some_each}
-use Rattle.arbac_laws.proofs.NormalLemmas.{less_parts, normal_both, not_possible, possible_not, some_of_cond}
+use Rattle.arbac_laws.proofs.ListLemmas.{each_is, each_weaker, some_each}
+use Rattle.arbac_laws.proofs.NormalLemmas.{less_parts, normal_both, not_possible, possible_not}
+use Rattle.arbac_laws.proofs.MapLemmas.{some_cond}
 use Rattle.arbac_laws.proofs.RoleLemmas.{cases_in, in_less}
 use Rattle.arbac_laws.proofs.SameLemmas.{any_of}
 
@@ -39,12 +41,12 @@ covering_possible_need a b covers possible =
 
 -- what covers a possible requirement is possible
 pub covering_possible : (a b : List Need) → Covers a b → IsPossible b → IsPossible a
-covering_possible a b covers possible = each_from_get IsPossibleNeed a (λ i need at.
+covering_possible a b covers possible = each_of IsPossibleNeed a (λ i need at.
     let one = covers.each i need at in covering_possible_need need one.0 one.2 (each_is IsPossibleNeed b one.0 (covers.to i) possible one.1))
 
 pub both_possible : (needs form : List Need) → normal_form needs ≡ Some form → IsPossible needs × IsPossible form
 both_possible needs form e =
-    let possible = not_possible needs (some_of_cond (is_impossible needs) (sort_by need_before (map normal_need needs)) form e).0 in
+    let possible = not_possible needs (some_cond (is_impossible needs) (sort_by need_before (map normal_need needs)) form e).0 in
     (possible, covering_possible form needs (normal_both needs form e).1 possible)
 
 -- sorted lists stay as they are

@@ -11,7 +11,8 @@ use Rattle.arbac_laws.specs.Orders.{need_before}
 use Rattle.arbac_laws.specs.NormalForms.{AreFormPlaces, AreSorted, insert_by, is_impossible, normal_form, normal_need, sort_by}
 use Rattle.arbac_laws.proofs.CountLemmas.{counted, cut, embeds_long, get_cut, shift, shift_apart}
 use Rattle.arbac_laws.proofs.MapLemmas.{compare, find_place, get_below, get_there, same_some}
-use Rattle.arbac_laws.proofs.NormalLemmas.{possible_not, some_of_cond}
+use Rattle.arbac_laws.proofs.NormalLemmas.{possible_not}
+use Rattle.arbac_laws.proofs.MapLemmas.{some_cond}
 use Rattle.arbac_laws.proofs.OrderLemmas.{count, is_same, need_order, sorted_same}
 use Rattle.arbac_laws.proofs.SortLemmas.{sort_sorted}
 use Rattle.arbac_laws.proofs.PlaceLemmas.{from_places, get-told, told, told_places}
@@ -169,7 +170,7 @@ are_places needs = record {
 
 pub form_places : (needs form : List Need) → normal_form needs ≡ Some form → (places : List ℕ) × AreFormPlaces needs form places
 form_places needs form e =
-    (places_of needs, subst (λ f. AreFormPlaces needs f (places_of needs)) (some_of_cond (is_impossible needs) (sort_by need_before (map normal_need needs)) form e).1 (are_places needs))
+    (places_of needs, subst (λ f. AreFormPlaces needs f (places_of needs)) (some_cond (is_impossible needs) (sort_by need_before (map normal_need needs)) form e).1 (are_places needs))
 
 -- each place of the form is one of them
 pub is_place : (needs form : List Need) (places : List ℕ) → AreFormPlaces needs form places → (p : ℕ) → p < length form → (k : ℕ) × (k < length needs) × (get_or places k 0 ≡ p)

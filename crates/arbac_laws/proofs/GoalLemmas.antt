@@ -1,4 +1,4 @@
--- A population meets the goal exactly where it meets a possible goal requirement.
+-- Meeting a goal is meeting one of its requirements that is possible.
 use Rattle.std.proofs.Common.{ℕ, ◌≡◌, ◌<◌, List, [], ◌∷◌, ◌++◌, length, map, Some, arith, zero, suc, sym, ap, cond, subst, refl, inl, inr}
 use Rattle.std.specs.Prelude.{slice_get, ◌⊎◌, ◌↔◌}
 use Rattle.role_order.specs.Graph.{Graph}

@@ -67,10 +67,6 @@ set_itself [] t x e = refl
 set_itself (y ∷ ys) zero x e = let same : y ≡ x = cc in ap (λ z. z ∷ ys) (sym same)
 set_itself (y ∷ ys) (suc t) x e = ap (λ zs. y ∷ zs) (set_itself ys t x e)
 
-pub each_from_get : {A : Type 0} (P : A → Type 0) (xs : List A) → ((i : ℕ) (x : A) → slice_get xs i ≡ Some x → P x) → Each P xs
-each_from_get P [] h = tt
-each_from_get P (x ∷ xs) h = (h 0 x refl, each_from_get P xs (λ i y e. h (suc i) y e))
-
 pub some_map : {A B : Type 0} (f : A → B) (P : B → Type 0) (xs : List A) → Some_of (λ x. P (f x)) xs → Some_of P (map f xs)
 some_map f P [] h = h
 some_map f P (x ∷ xs) (inl h) = inl h

@@ -3,13 +3,13 @@ use Rattle.std.proofs.Common.{◌≡◌, [], ◌∷◌, Some, refl}
 use Rattle.role_order.specs.Reach.{seniors_of}
 use Rattle.arbac_policy.specs.Truth.{has, lacks}
 use Rattle.arbac_policy.specs.declared.cond.Cond.TheVariants.{Has, Lacks}
+use Rattle.arbac_policy.proofs.TermLemmas.{term_any, term_has, term_lacks, term_or}
 use Rattle.arbac_laws.specs.Conjuncts.{conjuncts}
 use Rattle.arbac_laws.specs.Goals.{goal_requirements}
 use Rattle.arbac_laws.specs.NormalForms.{pre_form}
 use Rattle.arbac_laws.specs.Obligations.{assigns, revokes, obligations}
 use Rattle.arbac_laws.specs.PreImages.{itself, other, fresh}
 use Rattle.arbac_laws.specs.Rows.{giver_policy, senior_policy, adm, c, d, hits, hits_either, hits_without}
-use Rattle.arbac_laws.proofs.RowLemmas.{term_any, term_either, term_has, term_lacks}
 
 pub all_listed : obligations giver_policy (hits_without c d ∷ hits c ∷ [])
     ≡ assigns 0 0 c 0 itself ∷ assigns 0 0 c 0 (other 1) ∷ assigns 0 0 c 0 fresh
@@ -20,7 +20,7 @@ pub all_listed : obligations giver_policy (hits_without c d ∷ hits c ∷ [])
     ∷ assigns 1 0 c 1 itself ∷ assigns 1 0 c 1 (other 0) ∷ assigns 1 0 c 1 fresh
     ∷ revokes 0 d 0 itself ∷ revokes 0 d 0 (other 1) ∷ revokes 0 d 0 fresh ∷ []
 unfolding seniors_of
-all_listed = rw (term_either (Has adm) (Lacks d), term_has adm, term_lacks d, term_any) refl
+all_listed = rw (term_or (Has adm) (Lacks d), term_has adm, term_lacks d, term_any) refl
 
 pub senior_goal : goal_requirements senior_policy.order (has d ∷ []) ≡ (hits_either adm d ∷ []) ∷ []
 unfolding seniors_of

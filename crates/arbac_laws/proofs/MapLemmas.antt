@@ -1,5 +1,5 @@
 -- Injective maps: composed, extended and read.
-use Rattle.std.proofs.Common.{ℕ, ◌≡◌, ◌<◌, ◌+◌, List, [], ◌∷◌, ◌++◌, length, Some, arith, zero, suc, sym, ◌∙◌, ap, eqb, Bool, true, false, subst, refl, inl, inr}
+use Rattle.std.proofs.Common.{ℕ, ◌≡◌, ◌<◌, ◌+◌, List, [], ◌∷◌, ◌++◌, length, None, Some, arith, zero, suc, sym, ◌∙◌, ap, eqb, Bool, cond, true, false, subst, refl, inl, inr}
 use Rattle.std.specs.Prelude.{slice_get, slice_set, ◌⊎◌}
 use Rattle.std.proofs.lemmas.Bool.{eqb-true, eq-eqb}
 use Rattle.arbac_policy.specs.Embeds.{Embeds}
@@ -46,6 +46,10 @@ length_more (x ∷ xs) y = let r = length_more xs y in omega (arith, r)
 
 pub same_some : {A : Type 0} (x y : A) → Some x ≡ Some y → x ≡ y
 same_some x y e = cc
+
+pub some_cond : {A : Type 0} (t : Bool) (x y : A) → cond t None (Some x) ≡ Some y → (t ≡ false) × (x ≡ y)
+some_cond true x y e = cc
+some_cond false x y e = (refl, cc)
 
 -- two maps, one after the other
 pub compose : {A B C : Type 0} (R : A → B → Type 0) (S : B → C → Type 0) (T : A → C → Type 0) (xs : List A) (ys : List B) (zs : List C)

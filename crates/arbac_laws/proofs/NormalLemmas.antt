@@ -1,9 +1,9 @@
 -- The normal form covers the needs and is covered by them.
-use Rattle.std.proofs.Common.{ℕ, ◌≡◌, ◌<◌, ◌≤◌, ◌+◌, List, [], ◌∷◌, map, Some, None, arith, zero, suc, sym, ap, Bool, true, false, not, ◌||◌, cond, subst, refl, inl, inr}
+use Rattle.std.proofs.Common.{ℕ, ◌≡◌, ◌<◌, ◌≤◌, ◌+◌, List, [], ◌∷◌, map, Some, None, arith, zero, suc, sym, ap, Bool, true, false, not, cond, subst, refl, inl, inr}
 use Rattle.std.specs.Prelude.{◌↔◌}
 use Rattle.std.proofs.lemmas.Bool.{eq-eqb}
 use Rattle.std.specs.List.{list_any}
-use Rattle.role_order.proofs.SetLemmas.{and_both, both_true}
+use Rattle.role_order.proofs.SetLemmas.{and_both, both_true, or_none}
 use Rattle.role_order.specs.Lists.{Each, Some_of}
 use Rattle.role_order.specs.Roles.{AreApart, IsIn, IsOut, IsWithin, has_role, is_within, less_roles}
 use Rattle.arbac_laws.specs.Needs.{Covers, CoversNeed, IsCovered, IsPossible, IsPossibleNeed, Need}
@@ -11,9 +11,9 @@ use Rattle.arbac_laws.specs.NormalForms.{AreSets, IsNormal, IsNormalNeed, bare_h
 use Rattle.role_order.specs.Orders.{set_before}
 use Rattle.arbac_laws.specs.Orders.{need_before}
 use Rattle.arbac_laws.specs.PreImages.{is_empty}
-use Rattle.arbac_laws.proofs.CoverLemmas.{covers_itself, covers_need}
+use Rattle.arbac_laws.proofs.CoverLemmas.{covers_itself, covers_transitive}
 use Rattle.arbac_laws.proofs.ListLemmas.{each_by, each_some, one_some, some_one, some_weaker}
-use Rattle.arbac_laws.proofs.MapLemmas.{compose, embeds_front, embeds_itself, embeds_swap}
+use Rattle.arbac_laws.proofs.MapLemmas.{embeds_front, embeds_itself, embeds_swap, some_cond}
 use Rattle.arbac_laws.proofs.OrderLemmas.{count, need_order}
 use Rattle.role_order.proofs.OrderLemmas.{not_false, not_true, set_order}
 use Rattle.arbac_laws.proofs.RoleLemmas.{in_less, less_in, less_out}
@@ -30,16 +30,13 @@ use Rattle.std.proofs.Common.{get_or, length, ◌<◌}
 
 -- maps that come of a sort and of a change of each item
 
-pub covers_join : (a b c : List Need) → Covers a b → Covers b c → Covers a c
-covers_join a b c f g = compose CoversNeed CoversNeed CoversNeed a b c covers_need f g
-
 pub insert_into : (x : Need) (ys : List Need) → Covers (x ∷ ys) (insert_by need_before x ys)
 insert_into x [] = embeds_itself CoversNeed covers_itself (x ∷ [])
 insert_into x (y ∷ ys) = by_test (need_before y x) (insert_into x ys)
   where
     by_test : (t : Bool) → Covers (x ∷ ys) (insert_by need_before x ys) → Covers (x ∷ y ∷ ys) (cond t (y ∷ insert_by need_before x ys) (x ∷ y ∷ ys))
     by_test false rest = embeds_itself CoversNeed covers_itself (x ∷ y ∷ ys)
-    by_test true rest = covers_join (x ∷ y ∷ ys) (y ∷ x ∷ ys) (y ∷ insert_by need_before x ys) (embeds_swap CoversNeed covers_itself x y ys)
+    by_test true rest = covers_transitive (x ∷ y ∷ ys) (y ∷ x ∷ ys) (y ∷ insert_by need_before x ys) (embeds_swap CoversNeed covers_itself x y ys)
         (embeds_front CoversNeed y y (x ∷ ys) (insert_by need_before x ys) (covers_itself y) rest)
 
 pub insert_out : (x : Need) (ys : List Need) → Covers (insert_by need_before x ys) (x ∷ ys)
@@ -48,17 +45,17 @@ insert_out x (y ∷ ys) = by_test (need_before y x) (insert_out x ys)
   where
     by_test : (t : Bool) → Covers (insert_by need_before x ys) (x ∷ ys) → Covers (cond t (y ∷ insert_by need_before x ys) (x ∷ y ∷ ys)) (x ∷ y ∷ ys)
     by_test false rest = embeds_itself CoversNeed covers_itself (x ∷ y ∷ ys)
-    by_test true rest = covers_join (y ∷ insert_by need_before x ys) (y ∷ x ∷ ys) (x ∷ y ∷ ys)
+    by_test true rest = covers_transitive (y ∷ insert_by need_before x ys) (y ∷ x ∷ ys) (x ∷ y ∷ ys)
         (embeds_front CoversNeed y y (insert_by need_before x ys) (x ∷ ys) (covers_itself y) rest) (embeds_swap CoversNeed covers_itself y x ys)
 
 pub sort_into : (xs : List Need) → Covers xs (sort_by need_before xs)
 sort_into [] = embeds_itself CoversNeed covers_itself []
-sort_into (x ∷ xs) = covers_join (x ∷ xs) (x ∷ sort_by need_before xs) (insert_by need_before x (sort_by need_before xs))
+sort_into (x ∷ xs) = covers_transitive (x ∷ xs) (x ∷ sort_by need_before xs) (insert_by need_before x (sort_by need_before xs))
     (embeds_front CoversNeed x x xs (sort_by need_before xs) (covers_itself x) (sort_into xs)) (insert_into x (sort_by need_before xs))
 
 pub sort_out : (xs : List Need) → Covers (sort_by need_before xs) xs
 sort_out [] = embeds_itself CoversNeed covers_itself []
-sort_out (x ∷ xs) = covers_join (insert_by need_before x (sort_by need_before xs)) (x ∷ sort_by need_before xs) (x ∷ xs)
+sort_out (x ∷ xs) = covers_transitive (insert_by need_before x (sort_by need_before xs)) (x ∷ sort_by need_before xs) (x ∷ xs)
     (insert_out x (sort_by need_before xs)) (embeds_front CoversNeed x x (sort_by need_before xs) xs (covers_itself x) (sort_out xs))
 
 -- least hits
@@ -173,15 +170,11 @@ pub map_out : (needs : List Need) → Covers (map normal_need needs) needs
 map_out [] = embeds_itself CoversNeed covers_itself []
 map_out (x ∷ xs) = embeds_front CoversNeed (normal_need x) x (map normal_need xs) xs (normal_covers x) (map_out xs)
 
-pub some_of_cond : {A : Type 0} (t : Bool) (x y : A) → cond t None (Some x) ≡ Some y → (t ≡ false) × (x ≡ y)
-some_of_cond true x y e = cc
-some_of_cond false x y e = (refl, cc)
-
 pub normal_both : (needs form : List Need) → normal_form needs ≡ Some form → Covers needs form × Covers form needs
 normal_both needs form e =
-    let s = (some_of_cond (is_impossible needs) (sort_by need_before (map normal_need needs)) form e).1 in (
-      subst (λ f. Covers needs f) s (covers_join needs (map normal_need needs) (sort_by need_before (map normal_need needs)) (map_into needs) (sort_into (map normal_need needs))),
-      subst (λ f. Covers f needs) s (covers_join (sort_by need_before (map normal_need needs)) (map normal_need needs) needs (sort_out (map normal_need needs)) (map_out needs)),
+    let s = (some_cond (is_impossible needs) (sort_by need_before (map normal_need needs)) form e).1 in (
+      subst (λ f. Covers needs f) s (covers_transitive needs (map normal_need needs) (sort_by need_before (map normal_need needs)) (map_into needs) (sort_into (map normal_need needs))),
+      subst (λ f. Covers f needs) s (covers_transitive (sort_by need_before (map normal_need needs)) (map normal_need needs) needs (sort_out (map normal_need needs)) (map_out needs)),
     )
 
 -- impossible
@@ -201,14 +194,10 @@ pub possible_not : (needs : List Need) → IsPossible needs → is_impossible ne
 possible_not [] h = refl
 possible_not (need ∷ needs) h = rw (bare_filled need h.0) (possible_not needs h.1)
 
-pub or_nones : (a b : Bool) → (a || b) ≡ false → (a ≡ false) × (b ≡ false)
-or_nones true b e = cc
-or_nones false b e = (refl, e)
-
 pub not_possible : (needs : List Need) → is_impossible needs ≡ false → IsPossible needs
 not_possible [] e = tt
 not_possible (need ∷ needs) e =
-    let b = or_nones (list_any is_empty (bare_hits need)) (is_impossible needs) e in (go need.hits b.0, not_possible needs b.1)
+    let b = or_none (list_any is_empty (bare_hits need)) (is_impossible needs) e in (go need.hits b.0, not_possible needs b.1)
   where
     first : (xs : List ℕ) → is_empty xs ≡ false → (q : ℕ) × IsIn xs q
     first [] e = cc
@@ -217,7 +206,7 @@ not_possible (need ∷ needs) e =
     go : (hits : List (List ℕ)) → list_any is_empty (map (λ hit. less_roles hit need.lacks) hits) ≡ false → Each (λ hit. (role : ℕ) × IsIn hit role × IsOut need.lacks role) hits
     go [] e = tt
     go (hit ∷ hits) e =
-        let b = or_nones (is_empty (less_roles hit need.lacks)) (list_any is_empty (map (λ hit. less_roles hit need.lacks) hits)) e in
+        let b = or_none (is_empty (less_roles hit need.lacks)) (list_any is_empty (map (λ hit. less_roles hit need.lacks) hits)) e in
         let q = first (less_roles hit need.lacks) b.0 in
         ((q.0, less_in hit need.lacks q.0 q.1, less_out hit need.lacks q.0 q.1), go hits b.1)
 
@@ -276,7 +265,7 @@ normal_forms (x ∷ xs) h p = (normal_is_normal x h.0 p.0, normal_forms xs h.1 p
 
 pub form_is_normal : (needs form : List Need) → Each AreSets needs → normal_form needs ≡ Some form → IsNormal form
 form_is_normal needs form sets e =
-    let s = some_of_cond (is_impossible needs) (sort_by need_before (map normal_need needs)) form e in
+    let s = some_cond (is_impossible needs) (sort_by need_before (map normal_need needs)) form e in
     subst IsNormal s.1 (record {
       each = sort_by_in need_before IsNormalNeed (map normal_need needs) (normal_forms needs sets (not_possible needs s.0));
       sorted = sort_sorted need_before need_order (map normal_need needs);
@@ -285,8 +274,8 @@ form_is_normal needs form sets e =
 -- the normal form is covered by one of the list exactly where the needs are
 pub covered_alike : (list : List (List Need)) (needs form : List Need) → normal_form needs ≡ Some form → IsCovered list needs ↔ IsCovered list form
 covered_alike list needs form e = let b = normal_both needs form e in (
-  λ h. some_weaker (λ one. Covers one needs) (λ one. Covers one form) (λ one c. covers_join one needs form c b.0) list h,
-  λ h. some_weaker (λ one. Covers one form) (λ one. Covers one needs) (λ one c. covers_join one form needs c b.1) list h,
+  λ h. some_weaker (λ one. Covers one needs) (λ one. Covers one form) (λ one c. covers_transitive one needs form c b.0) list h,
+  λ h. some_weaker (λ one. Covers one form) (λ one. Covers one needs) (λ one c. covers_transitive one form needs c b.1) list h,
 )
 
 -- who meets the form meets the needs, by the places to which they went

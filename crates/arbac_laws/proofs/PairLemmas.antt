@@ -5,6 +5,7 @@ use Rattle.role_order.proofs.SetLemmas.{or_right}
 use Rattle.role_order.specs.Lists.{Each, IsOneOf, Some_of}
 use Rattle.role_order.specs.Reach.{seniors_of}
 use Rattle.arbac_policy.specs.Truth.{both, has}
+use Rattle.arbac_policy.proofs.TermLemmas.{term_any}
 use Rattle.role_order.specs.Roles.{IsWithin, has_role, less_roles}
 use Rattle.arbac_laws.specs.Needs.{Covers, CoversNeed, IsCovered, IsPossible, Meets, MeetsNeed, Need}
 use Rattle.arbac_laws.specs.Closed.{IsClosedList, IsUnmet}
@@ -18,7 +19,7 @@ use Rattle.arbac_laws.proofs.MapLemmas.{embeds_front, embeds_itself, embeds_none
 use Rattle.arbac_laws.proofs.ListLemmas.{each_is}
 use Rattle.arbac_laws.proofs.NormalLemmas.{none_impossible}
 use Rattle.arbac_laws.proofs.CoverLemmas.{covers_itself}
-use Rattle.arbac_laws.proofs.RowLemmas.{anyone_covers, form_of, lacks_adm, nobody_has_c, term_any}
+use Rattle.arbac_laws.proofs.RowLemmas.{anyone_covers, form_of, lacks_adm, nobody_has_c}
 
 -- exclusive pairs
 

@@ -7,9 +7,9 @@ use Rattle.role_order.specs.Reach.{seniors_of}
 use Rattle.role_order.specs.Roles.{IsIn}
 use Rattle.arbac_policy.specs.Rules.{Rules}
 use Rattle.arbac_policy.specs.Goals.{AreUsers, IsDrawn, times}
-use Rattle.arbac_policy.specs.Truth.{Term, term_level, term_of, any, has, lacks, either}
-use Rattle.arbac_policy.specs.declared.cond.Cond.{Cond, fold-roll-Cond}
-use Rattle.arbac_policy.specs.declared.cond.Cond.TheVariants.{Any, Has, Lacks, Or, rolls-Any, rolls-Has, rolls-Lacks, rolls-Or}
+use Rattle.arbac_policy.specs.Truth.{term_of, has, lacks}
+use Rattle.arbac_policy.specs.declared.cond.Cond.TheVariants.{Lacks}
+use Rattle.arbac_policy.proofs.TermLemmas.{term_lacks}
 use Rattle.arbac_policy.specs.declared.profile.Profile.{Profile}
 use Rattle.arbac_laws.specs.Closed.{IsClosedList, IsUnmet}
 use Rattle.arbac_laws.specs.Goals.{goal_requirements}
@@ -29,22 +29,8 @@ use Rattle.std.proofs.lemmas.Bool.{eqb-true}
 use Rattle.role_order.proofs.SetLemmas.{or_cases}
 use Rattle.std.specs.Prelude.{◌⊎◌}
 
--- the terms of conditions
-
-pub term_any : term_of Any ≡ any
-term_any = ap term_of (sym rolls-Any) ∙ fold-roll-Cond Term term_level _
-
-pub term_has : (role : ℕ) → term_of (Has role) ≡ has role
-term_has role = ap term_of (sym (rolls-Has role)) ∙ fold-roll-Cond Term term_level _
-
-pub term_lacks : (role : ℕ) → term_of (Lacks role) ≡ lacks role
-term_lacks role = ap term_of (sym (rolls-Lacks role)) ∙ fold-roll-Cond Term term_level _
-
 pub lacks_adm : term_of (Lacks adm) ≡ lacks adm
 lacks_adm = term_lacks adm
-
-pub term_either : (left right : Cond) → term_of (Or left right) ≡ either (term_of left) (term_of right)
-term_either left right = ap term_of (sym (rolls-Or left right)) ∙ fold-roll-Cond Term term_level _
 
 -- each step of the search, computed
 

@@ -1,4 +1,4 @@
--- Two normal forms that cover each other are equal.
+-- Cover in both directions makes normal forms equal.
 use Rattle.std.proofs.Common.{ℕ, ◌≡◌, ◌≤◌, ◌+◌, List, [], ◌∷◌, arith, sym, ◌∙◌, ap, eqb, Bool, true, false, not, ◌&&◌, cond, subst, refl, inl, inr}
 use Rattle.std.specs.Prelude.{◌⊎◌}
 use Rattle.std.proofs.lemmas.Bool.{eqb-true, eq-eqb}

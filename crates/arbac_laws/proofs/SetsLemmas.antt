@@ -18,7 +18,7 @@ use Rattle.arbac_laws.specs.PreImages.{Pick, add_hit, barred, before_assign, bef
 use Rattle.arbac_laws.proofs.ConjunctLemmas.{AreSeniors}
 use Rattle.arbac_laws.proofs.ListLemmas.{each_append, each_is}
 use Rattle.arbac_laws.proofs.ObligationLemmas.{IsAssigning, IsRevoking, in_parts}
-use Rattle.arbac_laws.proofs.TargetLemmas.{some_cond}
+use Rattle.arbac_laws.proofs.MapLemmas.{some_cond}
 
 pub join_sets : (a b : Need) → AreSets a → AreSets b → AreSets (join_needs a b)
 join_sets a b m n = record { hits = each_append Rises a.hits b.hits m.hits n.hits; lacks = rises-join_roles a.lacks b.lacks n.lacks }

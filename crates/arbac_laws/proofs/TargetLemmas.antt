@@ -1,5 +1,5 @@
 -- What one user's set meets before and after it is given a role or loses one.
-use Rattle.std.proofs.Common.{ℕ, ◌≡◌, List, [], ◌∷◌, ◌++◌, map, Some, None, sym, ◌∙◌, ap, Bool, true, false, not, ◌||◌, ◌&&◌, cond, subst, refl, inl, inr}
+use Rattle.std.proofs.Common.{ℕ, ◌≡◌, List, [], ◌∷◌, ◌++◌, map, Some, sym, ◌∙◌, ap, Bool, true, false, not, ◌||◌, ◌&&◌, cond, subst, refl, inl, inr}
 use Rattle.std.specs.Prelude.{◌⊎◌, filter}
 use Rattle.role_order.specs.Graph.{Graph, Leads}
 use Rattle.role_order.specs.Lists.{Some_of}
@@ -10,17 +10,11 @@ use Rattle.arbac_policy.specs.Steps.{Blocks}
 use Rattle.arbac_policy.specs.Truth.{IsMember}
 use Rattle.arbac_laws.specs.Needs.{HasHits, MeetsNeed, Need}
 use Rattle.arbac_laws.specs.PreImages.{barred, before_assign, before_weak, has_alone, is_barred, is_empty}
+use Rattle.role_order.proofs.SetLemmas.{or_none}
+use Rattle.arbac_laws.proofs.MapLemmas.{some_cond}
 use Rattle.arbac_laws.proofs.ListLemmas.{each_append, each_left, each_right}
 use Rattle.arbac_laws.proofs.RoleLemmas.{apart_join, cases_in, in_join_left, in_join_right, in_with, in_with_same, in_without, with_cases, without_in}
 use Rattle.arbac_laws.proofs.ConjunctLemmas.{AreSeniors}
-
-pub some_cond : {A : Type 0} (t : Bool) (x y : A) → cond t None (Some x) ≡ Some y → (t ≡ false) × (x ≡ y)
-some_cond true x y e = cc
-some_cond false x y e = (refl, cc)
-
-pub or_none : (a b : Bool) → (a || b) ≡ false → (a ≡ false) × (b ≡ false)
-or_none true b e = cc
-or_none false b e = (refl, e)
 
 -- pairs
 

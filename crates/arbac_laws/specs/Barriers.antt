@@ -29,7 +29,7 @@ pub record IsCeiling (rules : Rules) (profiles : List Profile) (set : List ℕ) 
 abbrev pub outside : ℕ → List ℕ → List ℕ
 outside count set = filter (λ role. not (has_role set role)) (count_up 0 count)
 
--- one user, whose only hit is all roles outside
+-- one user with one hit: every role outside
 abbrev pub barrier : ℕ → List ℕ → List Need
 barrier count set = record { hits = outside count set ∷ []; lacks = [] } ∷ []
 

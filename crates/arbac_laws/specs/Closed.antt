@@ -14,8 +14,8 @@ use Rattle.arbac_laws.specs.Obligations.{Obligation, obligations, pre_image}
 abbrev pub IsUnmet : List Profile → List Need → Type 0
 IsUnmet profiles needs = (users : List (List ℕ)) → IsDrawn profiles users → ¬ Meets users needs
 
--- each possible goal requirement and each possible pre-image of a member is covered by a member, and
--- no drawn population meets a member
+-- what is possible of the goal requirements, and of the members' pre-images, is covered by some member;
+-- no member is met by users that can be drawn
 pub record IsClosedList (rules : Rules) (profiles : List Profile) (goal : List Term) (list : List (List Need)) : Type 0 where
   pub goals : (needs : List Need) → IsOneOf (goal_requirements rules.order goal) needs
       → IsPossible needs → IsCovered list needs

@@ -4,8 +4,8 @@ use Rattle.role_order.specs.Lists.{Each, Some_of}
 use Rattle.role_order.specs.Roles.{less_roles, IsIn, IsOut, IsWithin, AreApart, HaveCommon}
 use Rattle.arbac_policy.specs.Embeds.{Embeds}
 
--- a user requirement: one role of each hit is wanted, and none of the lacks;
--- a requirement is a list of them
+-- what is wanted of one user: of each hit at least one role, of the lacks none; a requirement is a
+-- list of these, for different users
 pub record Need : Type 0 where
   pub hits : List (List ℕ)
   pub lacks : List ℕ
@@ -14,7 +14,7 @@ pub record Need : Type 0 where
 abbrev pub HasHits : List ℕ → List (List ℕ) → Type 0
 HasHits set hits = Each (λ hit. HaveCommon hit set) hits
 
--- the set has a role of each hit and no role of the lacks
+-- each hit shares a role with the set, and the lacks share none
 pub record MeetsNeed (need : Need) (set : List ℕ) : Type 0 where
   pub hits : HasHits set need.hits
   pub lacks : AreApart need.lacks set
@@ -27,8 +27,8 @@ Meets users needs = Embeds MeetsNeed needs users
 abbrev pub MeetsBy : List (List ℕ) → List Need → (ℕ → ℕ) → Type 0
 MeetsBy users needs to = (met : Meets users needs) × ((i : ℕ) → met.to i ≡ to i)
 
--- each hit of the first contains some hit of the second less the second's lacks,
--- and the lacks of the first lie within those of the second
+-- within each hit of the first lies a hit of the second, the second's lacks taken out of it,
+-- and the second lacks all that the first does
 pub record CoversNeed (a b : Need) : Type 0 where
   pub hits : Each (λ hit. Some_of (λ other. IsWithin (less_roles other b.lacks) hit) b.hits) a.hits
   pub lacks : IsWithin a.lacks b.lacks

@@ -46,8 +46,8 @@ least_hits hits = filter (λ hit. not (list_any (λ other. is_less other hit) hi
 abbrev pub bare_hits : Need → List (List ℕ)
 bare_hits need = map (λ hit. less_roles hit need.lacks) need.hits
 
--- the lacks are taken out of each hit, hits that contain a different hit are left out, and the others
--- are sorted without repeats
+-- from each hit the lacks go; then only the hits that contain no different one stay, sorted and
+-- each of them once
 abbrev pub normal_need : Need → Need
 normal_need need = record { hits = sort_once set_before (least_hits (bare_hits need)); lacks = need.lacks }
 

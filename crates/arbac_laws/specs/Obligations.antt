@@ -1,4 +1,4 @@
--- The ordered list of obligations of a requirement, the pre-image of each, and the act that it names.
+-- Obligations: the acts after which a requirement may be met, in their order, and what each wants before it.
 use Rattle.std.specs.Prelude.{ℕ, ◌≡◌, ◌+◌, ◌==◌, Bool, true, false, ◌&&◌, not, List, [], ◌∷◌, ◌++◌, map, filter, length, slice_get, slice_set, Some, None, Option}
 use Rattle.std.specs.List.{list_any}
 use Rattle.role_order.specs.Lists.{Some_of}
@@ -71,7 +71,7 @@ abbrev pub if_wanted : Bool → ℕ → List ℕ
 if_wanted true place = place ∷ []
 if_wanted false place = []
 
--- the target itself, each other user by place, and a new user
+-- first the target as its own administrator, then the others by place, then someone new
 abbrev pub picks : ℕ → ℕ → List Pick
 picks target count = itself ∷ (map other (filter (λ place. not (place == target)) (count_up 0 count)) ++ fresh ∷ [])
 
@@ -83,7 +83,7 @@ wanting role needs = flat_places (λ place need. if_wanted (list_any (λ hit. ha
 abbrev pub barring : ℕ → List Need → List ℕ
 barring role needs = flat_places (λ place need. if_wanted (has_role need.lacks role) place) 0 needs
 
--- for each rule by place, conjunct by place, role of its range rising, target by place, and administrator
+-- by rule, within it by conjunct, then by role of the range, by target and by administrator
 abbrev pub assign_obligations : Rules → List Need → List Obligation
 assign_obligations rules needs =
     flat_places (λ i rule. flat_places (λ j conjunct. flat (λ role. flat (λ target.
@@ -93,7 +93,7 @@ assign_obligations rules needs =
     0 (conjuncts rules.order (term_of rule.cond)))
     0 rules.assign
 
--- for each rule by place, role of its range rising, target by place, and administrator
+-- by rule, within it by role of the range, then by target and by administrator
 abbrev pub weak_obligations : Rules → List Need → List Obligation
 weak_obligations rules needs =
     flat_places (λ i rule. flat (λ role. flat (λ target.

@@ -11,6 +11,6 @@ hits_before = list_before set_before
 abbrev pub need_before : Need → Need → Bool
 need_before a b = hits_before a.hits b.hits || (not (hits_before b.hits a.hits) && set_before a.lacks b.lacks)
 
--- by the number of users, and then as lists
+-- fewer users first, and as lists where there are as many
 abbrev pub requirement_before : List Need → List Need → Bool
 requirement_before a b = nat_lt (length a) (length b) || (not (nat_lt (length b) (length a)) && list_before need_before a b)

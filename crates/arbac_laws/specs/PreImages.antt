@@ -70,7 +70,7 @@ change_at i change [] = []
 change_at zero change (x ∷ xs) = change x ∷ xs
 change_at (suc i) change (x ∷ xs) = x ∷ change_at i change xs
 
--- the requirement with the hit added to the administrator, a new user standing last
+-- the administrator is to meet the hit too; where it is a new user, it comes behind all others
 abbrev pub with_admin : Pick → ℕ → List ℕ → List Need → List Need
 with_admin itself target hit needs = change_at target (add_hit hit) needs
 with_admin (other place) target hit needs = change_at place (add_hit hit) needs

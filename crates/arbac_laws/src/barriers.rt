@@ -11,8 +11,8 @@ ghost use Rattle.arbac_laws.specs.Obligations.{Obligation, obligations, pre_imag
 ghost use Rattle.arbac_laws.specs.Closed.{IsUnmet};
 ghost use Rattle.arbac_laws.specs.Barriers.{HasGains, IsCeiling, barriers};
 
-/// Outside any set that has what is drawn and what the rules give, so also outside the ceiling: each
-/// pre-image of a barrier is covered by a barrier, and no drawn population meets one. Two ceilings
+/// Outside any set that has what is drawn and what the rules give, so also outside the ceiling,
+/// barriers are closed under pre-images up to cover, and no users that can be drawn meet one. Two ceilings
 /// have the same roles.
 pub fn barrier_laws()
     ensures closed { (rules : Rules) → AreEdges (length rules.order.names) rules.order.edges → IsPolicy rules →

@@ -1,6 +1,6 @@
 //! Laws of closed lists.
 
-ghost use Rattle.std.specs.Prelude.{ℕ, List, length};
+ghost use Rattle.std.specs.Prelude.{List, length};
 ghost use Rattle.role_order.specs.Graph.{AreEdges};
 ghost use Rattle.arbac_policy.specs.declared.profile.Profile.{Profile};
 ghost use Rattle.arbac_policy.specs.Truth.{Term};

@@ -7,7 +7,7 @@ ghost use Rattle.arbac_policy.specs.Truth.{Term, user, Satisfies};
 ghost use Rattle.arbac_laws.specs.Needs.{MeetsNeed};
 ghost use Rattle.arbac_laws.specs.Conjuncts.{conjuncts};
 
-/// A user's set satisfies a condition exactly where it meets one of the conjuncts.
+/// Who satisfies a condition meets one of its conjuncts, and who meets one satisfies it.
 pub fn conjunct_laws()
     ensures { (order : Graph) → AreEdges (length order.names) order.edges → (set : List ℕ) (cond : Term) →
         Satisfies user order.edges set cond ↔ Some_of (λ need. MeetsNeed need set) (conjuncts order cond) }

@@ -4,8 +4,8 @@ ghost use Rattle.std.specs.Prelude.{ℕ, List};
 ghost use Rattle.role_order.specs.Lists.{Some_of};
 ghost use Rattle.arbac_laws.specs.Needs.{Need, Meets, Covers, IsCovered, IsPossible};
 
-/// Cover is reflexive and transitive; a population that meets a covered requirement meets the
-/// covering one; what a population meets is possible.
+/// Cover is reflexive and transitive; where something covered is met, so is what covers it; what a
+/// population meets is possible.
 pub fn cover_laws()
     ensures itself { (needs : List Need) → Covers needs needs }
     ensures transitive { (a b c : List Need) → Covers a b → Covers b c → Covers a c }

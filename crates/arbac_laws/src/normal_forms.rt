@@ -9,9 +9,9 @@ ghost use Rattle.arbac_laws.specs.Places.{ArePlaces};
 
 /// The normal form of a requirement covers it and is covered by it, and is its own normal form; there
 /// is none exactly where the requirement is impossible, which is decided, and where there is one both
-/// are possible; a list covers the one exactly where it covers the other; two normal forms that cover
-/// each other are equal. Where places say to which users of the normal form those of
-/// the requirement went, a population that meets the form meets the requirement by these places.
+/// are possible; a list covers the one exactly where it covers the other; cover in both directions
+/// makes two normal forms equal. Where places say to which users of the normal form those of the
+/// requirement went, a population that meets the form meets the requirement by these places.
 pub fn normal_laws()
     ensures covers { (needs form : List Need) → normal_form needs ≡ Some form → Covers needs form × Covers form needs }
     ensures none { (needs : List Need) → (normal_form needs ≡ None) ↔ ¬ IsPossible needs }

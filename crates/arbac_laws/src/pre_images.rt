@@ -10,8 +10,8 @@ ghost use Rattle.arbac_laws.specs.Needs.{Need, Meets, MeetsBy};
 ghost use Rattle.arbac_laws.specs.PreImages.{AssignObligation, WeakObligation, assign_pre_image, weak_pre_image, admin_place};
 ghost use Rattle.arbac_laws.specs.Obligations.{Obligation, obligations, pre_image, act_of, MeetsPreImage};
 
-/// From a population that meets a pre-image, the obligation's act is a step to one that meets the
-/// requirement, its users standing where those of the pre-image stood.
+/// Where a pre-image is met, the obligation's act can be done, and after it the requirement is met, by
+/// users that stand where those of the pre-image stood.
 pub fn forward_laws()
     ensures assign { (rules : Rules) → AreEdges (length rules.order.names) rules.order.edges →
         (users : List (List ℕ)) (needs : List Need) (ob : AssignObligation rules needs) (before : Meets users (assign_pre_image ob)) →

@@ -1,6 +1,6 @@
 //! Small policies, worked.
 
-ghost use Rattle.std.specs.Prelude.{List, [], ◌∷◌, ℕ, ◌≡◌, length, Some, None};
+ghost use Rattle.std.specs.Prelude.{[], ◌∷◌, ◌≡◌, length, Some, None};
 ghost use Rattle.role_order.specs.Lists.{Each};
 ghost use Rattle.arbac_policy.specs.Truth.{has, lacks, both};
 ghost use Rattle.arbac_policy.specs.Goals.{IsReachable};

@@ -20,7 +20,7 @@ AreUsers profiles (place ∷ choice) [] = ⊥
 AreUsers profiles (place ∷ choice) (set ∷ users) =
     ((profile : Profile) × (slice_get profiles place ≡ Some profile) × (set ≡ profile.set)) × AreUsers profiles choice users
 
--- each place is a profile, and no profile stands in the choice more often than its count
+-- the choice names profiles, none of them beyond its count
 pub record IsDrawnChoice (profiles : List Profile) (choice : List ℕ) : Type 0 where
   pub places : (k place : ℕ) → slice_get choice k ≡ Some place → (profile : Profile) × (slice_get profiles place ≡ Some profile)
   pub few : (place : ℕ) (profile : Profile) (most : ℕ) → slice_get profiles place ≡ Some profile → profile.most ≡ Some most → times place choice ≤ most
@@ -35,7 +35,7 @@ pub record IsDrawn (profiles : List Profile) (users : List (List ℕ)) : Type 0 
 abbrev pub GoalMet : List (ℕ × ℕ) → List Term → List (List ℕ) → Type 0
 GoalMet edges goal users = Embeds (λ cond set. Satisfies user edges set cond) goal users
 
--- a run leads from a drawn population to one that meets the goal
+-- from some users that can be drawn a run leads to users who meet the goal
 pub record IsReachable (rules : Rules) (profiles : List Profile) (goal : List Term) : Type 0 where
   pub start : List (List ℕ)
   pub drawn : IsDrawn profiles start

@@ -48,7 +48,7 @@ pub record WeakStep (holder : Holder) (rules : Rules) (users old : List (List �
   pub lets : Some_of (LetsRevoke rules by role) (revoke_rules holder rules)
   pub gives : new ≡ slice_set old target (without_role set role)
 
--- weak steps of these roles, one after another, each in the state that the former ones left
+-- a weak step for each of these roles in turn, beginning where the one before it ended
 abbrev pub WeakSteps : Holder → Rules → List (List ℕ) → List (List ℕ) → ℕ → ℕ → List ℕ → List (List ℕ) → Type 0
 WeakSteps holder rules users old admin target [] new = new ≡ old
 WeakSteps holder rules users old admin target (role ∷ roles) new =

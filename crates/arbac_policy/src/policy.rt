@@ -1,6 +1,6 @@
 //! Policies.
 
-ghost use Rattle.std.specs.Prelude.{ℕ, ◌≡◌, ◌<◌, ◌↔◌, IsTrue, IfSome, IfNone, length};
+ghost use Rattle.std.specs.Prelude.{◌≡◌, ◌<◌, ◌↔◌, IsTrue, IfSome, IfNone};
 ghost use Rattle.role_order.specs.Lists.{Each};
 ghost use Rattle.arbac_policy.specs.Truth.{term_of, IsKnown};
 ghost use Rattle.arbac_policy.specs.Rules.{IsPolicy, AreCountable, policy_of, IsKnownRange, IsKnownAssign, IsKnownRevoke, IsKnownPair};
@@ -107,7 +107,7 @@ fn are_known_pairs(count: u16, pairs: &[(u16, u16)]) -> bool
 }
 
 impl Policy {
-    /// The policy of these parts; none exactly where a rule or a pair names a number that is no role.
+    /// The policy of these parts; none where, and only where, a rule or pair has a number that is no role's.
     pub fn new(
         order: Order,
         assign: Vec<CanAssign>,

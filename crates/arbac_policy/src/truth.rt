@@ -1,7 +1,7 @@
 //! Membership, and the truth of conditions.
 
-ghost use Rattle.std.specs.Prelude.{ℕ, ◌≡◌, ◌<◌, ◌↔◌, IsTrue, length};
-ghost use Rattle.arbac_policy.specs.Truth.{IsMember, IsPermMember, Satisfies, term_of, IsKnown, Holder, user, permission};
+ghost use Rattle.std.specs.Prelude.{◌<◌, ◌↔◌, IsTrue, length};
+ghost use Rattle.arbac_policy.specs.Truth.{IsMember, IsPermMember, Satisfies, term_of, IsKnown, user, permission};
 
 use crate::cond::Cond;
 use crate::holder::On;

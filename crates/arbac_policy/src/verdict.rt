@@ -18,7 +18,7 @@ pub enum Part {
     NoRange { role: u16 },
     /// The administrator has the administrative role of no such rule; the first such rule.
     NoAdmin { role: u16, rule: u32 },
-    /// The target meets the condition of no rule that is left; the first such rule.
+    /// No rule that is left has a condition that is true of the target; the first such rule.
     NoCondition { role: u16, rule: u32 },
     /// An exclusive pair blocks the role for the target; the first such pair.
     Exclusive { role: u16, pair: u32 },

@@ -1,7 +1,7 @@
 -- Lists of conjuncts that grow by one at a time.
 use Rattle.std.proofs.Common.{ℕ, ◌≡◌, ◌≤◌, ◌<◌, ◌+◌, ◌∙◌, List, [], ◌∷◌, ◌++◌, length, take, get_or, Some, refl, zero, suc, ap, sym, append_assoc, arith}
 use Rattle.std.specs.List.{slice_get}
-use Rattle.std.proofs.lemmas.List.{append-nil, map_push, map-append}
+use Rattle.std.proofs.lemmas.List.{append-nil, map_push}
 use Rattle.role_order.proofs.ListLemmas.{take_all, take_one_more}
 use Rattle.arbac_laws.specs.Needs.{Need}
 use Rattle.arbac_laws.specs.Conjuncts.{join_all, join_needs, join_with}
@@ -51,7 +51,3 @@ joined_one xs bs all new i x at grown before =
     grown
     ∙ ap (λ l. l ++ join_with (need_of x) (needs_of bs)) before
     ∙ sym (ap (λ l. join_all l (needs_of bs)) (take_one_more (needs_of xs) i (need_of x) at) ∙ all_push (take i (needs_of xs)) (need_of x) (needs_of bs))
-
--- the parts of a list that was put together
-pub needs_append : (xs ys zs : List Conjunct) → zs ≡ xs ++ ys → needs_of zs ≡ needs_of xs ++ needs_of ys
-needs_append xs ys zs h = ap needs_of h ∙ map-append need_of xs ys

@@ -14,6 +14,7 @@ pub use arbac_policy::{
 pub use cond_text::{CondError, MOST_OPEN, MOST_TERMS, parse_cond, print_cond};
 pub use conjunct::Conjunct;
 pub use listing::{WideError, conjuncts};
+pub use std::alloc::AllocError as NoMemory;
 pub use width::width_of;
 
 /// The greatest number of conjuncts of a condition that are listed.

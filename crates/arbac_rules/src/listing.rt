@@ -57,6 +57,7 @@ pub fn conjuncts(alloc: Global, order: &Order, cond: &Cond) -> Result<Vec<Conjun
     ensures few { IfOk result (λ _. length (conjuncts_law order.now (term_of cond.now))
         ≤ MOST_CONJUNCTS) }
     ensures wide { IfErr result (IsTooWide (conjuncts_law order.now (term_of cond.now))) }
+    ensures limit { MOST_CONJUNCTS ≡ 1024 }
 {
     let count = width_of(cond);
     if count > MOST_CONJUNCTS as u128 {

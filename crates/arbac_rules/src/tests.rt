@@ -1,6 +1,6 @@
 //! The conjuncts of conditions, and the limit on their number.
 
-ghost use Rattle.std.specs.Prelude.{◌≡◌, ◌<◌, ◌≤◌, ℕ, length};
+ghost use Rattle.std.specs.Prelude.{◌<◌};
 
 use crate::{Conjunct, WideError, conjuncts, parse_cond};
 use role_order::{Order, RoleSet};

@@ -2,6 +2,7 @@
 use Rattle.std.proofs.Common.{◌≡◌, ℕ, ◌≤◌, ◌<◌, ◌+◌, ◌∙◌, ap, subst, sym, refl, inl, inr, ◌⊎◌, arith, Bool, true, false, cond, ◌&&◌, nat_le, List, [], ◌∷◌, ◌++◌, append_assoc, append-nil, Option, Some, None, Result, Ok, Err}
 use Rattle.std.specs.Prelude.{option_and_then}
 use Rattle.std.proofs.lemmas.Bool.Decides.{nat_tests}
+use Rattle.role_order.proofs.SetLemmas.{and_both}
 use Rattle.cond_text.specs.declared.word.Word.{Word}
 use Rattle.cond_text.specs.declared.word.Word.TheVariants.{Any, Name, Not, And, Or, Open, Close, Stray}
 use Rattle.cond_text.specs.declared.word.Placed.{Placed}
@@ -21,10 +22,6 @@ use Rattle.cond_text.proofs.PrefixLemmas.{can_begin, cannot_begin, go_one_more, 
 chosen : {A : Type 0} (b : Bool) (x y z : A) → cond b x y ≡ z → ((b ≡ true) × (x ≡ z)) ⊎ ((b ≡ false) × (y ≡ z))
 chosen true x y z e = inl (refl, e)
 chosen false x y z e = inr (refl, e)
-
-both_true : (a b : Bool) → (a && b) ≡ true → (a ≡ true) × (b ≡ true)
-both_true true b e = (refl, e)
-both_true false b e = absurd (cc)
 
 le_true : (a b : ℕ) → nat_le a b ≡ true → a ≤ b
 le_true a b e = grind (arith, nat_tests)
@@ -117,7 +114,7 @@ limited count before terms nested place rest (Name role) fault e n h = elim (cho
   ]
 ]
 limited count before terms nested place rest Not fault e n h = elim (chosen (nat_le MOST_TERMS terms && begins_with_name rest) (Some (TooDeep place)) None (Some fault) h) [
-  | inl p ↦ let b = both_true (nat_le MOST_TERMS terms) (begins_with_name rest) p.0 in
+  | inl p ↦ let b = and_both (nat_le MOST_TERMS terms) (begins_with_name rest) p.0 in
       inl ((let q = p.1 in let r : TooDeep place ≡ fault = cc in r), (omega (arith, le_true MOST_TERMS terms b.0), begins_true rest b.1))
   | inr p ↦ let q = p.1 in absurd (cc)
 ]

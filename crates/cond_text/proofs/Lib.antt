@@ -3,7 +3,6 @@ pub mod SoundLemmas
 pub mod PrefixLemmas
 pub mod JudgeLemmas
 pub mod FaultLemmas
-pub mod TermLemmas
 pub mod FewestLemmas
 pub mod LimitLemmas
 pub mod NameLemmas

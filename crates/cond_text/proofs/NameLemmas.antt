@@ -8,6 +8,8 @@ use Rattle.std.proofs.lemmas.Bool.{false≢true}
 use Rattle.std.proofs.lemmas.Bool.Decides.{nat_tests}
 use Rattle.std.proofs.lemmas.Option.{slice_get-get_or}
 use Rattle.std.proofs.lemmas.Slice.Eq.{bytes_eq-Decides}
+use Rattle.role_order.proofs.OrderLemmas.{not_false}
+use Rattle.role_order.proofs.SetLemmas.{and_both, or_none}
 use Rattle.role_order.specs.Lists.{Each}
 use Rattle.role_order.specs.Names.{is_name_byte, is_name, is_reserved, is_role_name, place_of, AreDifferent}
 use Rattle.role_order.specs.Refusals.{AreNames}
@@ -24,21 +26,9 @@ pub record IsProper (names : List (List ℕ)) (role : ℕ) : Type 0 where
 abbrev pub AreProper : List (List ℕ) → Type 0
 AreProper names = (role : ℕ) → role < length names → IsProper names role
 
-both_true : (a b : Bool) → (a && b) ≡ true → (a ≡ true) × (b ≡ true)
-both_true true b e = (refl, e)
-both_true false b e = absurd (false≢true e)
-
-both_false : (a b : Bool) → (a || b) ≡ false → (a ≡ false) × (b ≡ false)
-both_false false b e = (refl, e)
-both_false true b e = absurd (false≢true (sym e))
-
 not_true : (b : Bool) → not b ≡ true → b ≡ false
 not_true false e = refl
 not_true true e = absurd (false≢true e)
-
-not_both : (b : Bool) → (b ≡ true → ⊥) → b ≡ false
-not_both true h = absurd (h refl)
-not_both false h = refl
 
 each_get : (P : List ℕ → Type 0) (names : List (List ℕ)) (role : ℕ) → Each P names → role < length names → P (get_or names role [])
 each_get P [] role all h = absurd (omega arith)
@@ -60,13 +50,13 @@ not_empty name h e = false≢true (ap (λ (n : List ℕ). nat_le 1 (length n)) (
 free_name : (name : List ℕ) → is_role_name name ≡ true → IsFree name
 unfolding is_role_name is_name is_reserved
 free_name name h =
-    let parts = both_true (nat_le 1 (length name) && nat_le (length name) MOST_NAME_BYTES && list_all is_name_byte name)
+    let parts = and_both (nat_le 1 (length name) && nat_le (length name) MOST_NAME_BYTES && list_all is_name_byte name)
     (not (bytes_eq name (codes "any") || bytes_eq name (codes "not") || bytes_eq name (codes "and") || bytes_eq name (codes "or"))) h in
-    let named = both_true (nat_le 1 (length name) && nat_le (length name) MOST_NAME_BYTES) (list_all is_name_byte name) parts.0 in
-    let long = both_true (nat_le 1 (length name)) (nat_le (length name) MOST_NAME_BYTES) named.0 in
-    let three = both_false (bytes_eq name (codes "any") || bytes_eq name (codes "not") || bytes_eq name (codes "and")) (bytes_eq name (codes "or")) (not_true _ parts.1) in
-    let two = both_false (bytes_eq name (codes "any") || bytes_eq name (codes "not")) (bytes_eq name (codes "and")) three.0 in
-    let one = both_false (bytes_eq name (codes "any")) (bytes_eq name (codes "not")) two.0 in
+    let named = and_both (nat_le 1 (length name) && nat_le (length name) MOST_NAME_BYTES) (list_all is_name_byte name) parts.0 in
+    let long = and_both (nat_le 1 (length name)) (nat_le (length name) MOST_NAME_BYTES) named.0 in
+    let three = or_none (bytes_eq name (codes "any") || bytes_eq name (codes "not") || bytes_eq name (codes "and")) (bytes_eq name (codes "or")) (not_true _ parts.1) in
+    let two = or_none (bytes_eq name (codes "any") || bytes_eq name (codes "not")) (bytes_eq name (codes "and")) three.0 in
+    let one = or_none (bytes_eq name (codes "any")) (bytes_eq name (codes "not")) two.0 in
     record { bytes = named.1; some = not_empty name long.0; any = one.0; not_ = one.1; and = two.1; or = three.1 }
 
 prefix_at : (names : List (List ℕ)) (role : ℕ) (text : List ℕ) → role < length names → bytes_eq (get_or names role []) text ≡ true
@@ -85,7 +75,7 @@ place_at names different role h =
     let text : List ℕ = get_or names role [] in
     let here : bytes_eq text text ≡ true = (bytes_eq-Decides text text).1 refl in
     found_at (prefix_len (λ name. not (bytes_eq name text)) names) role (length names)
-    (prefix_at names role text h here (λ j l. not_both (bytes_eq (get_or names j []) text) (λ e. clash j l ((bytes_eq-Decides (get_or names j []) text).0 e)))) h
+    (prefix_at names role text h here (λ j l. not_false (bytes_eq (get_or names j []) text) (λ e. clash j l ((bytes_eq-Decides (get_or names j []) text).0 e)))) h
   where
     clash : (j : ℕ) → j < role → get_or names j [] ≡ get_or names role [] → ⊥
     clash j l e =

@@ -24,10 +24,6 @@ abbrev spell_ands : Option Phrase → List Word → List Word
 spell_ands None rest = rest
 spell_ands (Some p) rest = spell p (And ∷ rest)
 
-abbrev and_phrase : Option Phrase → Phrase → Phrase
-and_phrase None q = q
-and_phrase (Some p) q = an_and p q
-
 abbrev or_phrase : Option Phrase → Phrase → Phrase
 or_phrase None q = q
 or_phrase (Some p) q = an_or p q

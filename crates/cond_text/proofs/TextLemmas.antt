@@ -1,9 +1,10 @@
 -- The words of what is written are the phrase's.
-use Rattle.std.proofs.Common.{ℕ, ◌≡◌, ◌≢◌, ◌+◌, ◌∙◌, ap, subst, sym, refl, Bool, true, false, cond, ◌&&◌, List, [], ◌∷◌, ◌++◌, append_assoc, append-nil, length, get_or, Option, Some, None}
+use Rattle.std.proofs.Common.{ℕ, ◌≡◌, ◌≢◌, ◌+◌, ◌∙◌, ap, subst, sym, refl, Bool, true, false, cond, List, [], ◌∷◌, ◌++◌, append_assoc, append-nil, length, get_or, Option, Some, None}
 use Rattle.std.specs.Prelude.{codes}
 use Rattle.std.specs.List.{list_all, take_while}
 use Rattle.std.proofs.lemmas.Bool.{false≢true}
 use Rattle.std.proofs.lemmas.List.Sums.{take_while-cons}
+use Rattle.role_order.proofs.SetLemmas.{and_both}
 use Rattle.role_order.specs.Names.{is_name_byte}
 use Rattle.arbac_policy.specs.Truth.{Term, IsKnown}
 use Rattle.cond_text.specs.declared.level.Level.TheVariants.{Condition}
@@ -43,23 +44,19 @@ abbrev Stops : List ℕ → Type 0
 Stops [] = Unit {0}
 Stops (b ∷ bs) = is_name_byte b ≡ false
 
-both_parts : (a b : Bool) → (a && b) ≡ true → (a ≡ true) × (b ≡ true)
-both_parts true b e = (refl, e)
-both_parts false b e = absurd (false≢true e)
-
 -- name bytes are the run that they begin
 run_name : (name rest : List ℕ) → list_all is_name_byte name ≡ true → Stops rest → take_while is_name_byte (name ++ rest) ≡ name
 run_name [] [] all stops = refl
 run_name [] (b ∷ bs) all stops = take_while-cons is_name_byte b bs ∙ rw stops refl
 run_name (n ∷ ns) rest all stops =
-    let p = both_parts (is_name_byte n) (list_all is_name_byte ns) all in
+    let p = and_both (is_name_byte n) (list_all is_name_byte ns) all in
     take_while-cons is_name_byte n (ns ++ rest) ∙ rw p.0 (ap (λ l. n ∷ l) (run_name ns rest p.1 stops))
 
 -- behind a name byte, further name bytes begin no word
 skipped : (names : List (List ℕ)) (name rest : List ℕ) → list_all is_name_byte name ≡ true → bare names true (name ++ rest) ≡ bare names true rest
 unfolding bare
 skipped names [] rest all = refl
-skipped names (n ∷ ns) rest all = let p = both_parts (is_name_byte n) (list_all is_name_byte ns) all in rw p.0 (skipped names ns rest p.1)
+skipped names (n ∷ ns) rest all = let p = and_both (is_name_byte n) (list_all is_name_byte ns) all in rw p.0 (skipped names ns rest p.1)
 
 stopped : (names : List (List ℕ)) (rest : List ℕ) → Stops rest → bare names true rest ≡ bare names false rest
 unfolding bare
@@ -80,7 +77,7 @@ name_words : (names : List (List ℕ)) (name rest : List ℕ) (w : Word) → lis
 unfolding bare
 name_words names [] rest w all ne e stops = absurd (ne refl)
 name_words names (n ∷ ns) rest w all ne e stops =
-    let p = both_parts (is_name_byte n) (list_all is_name_byte ns) all in
+    let p = and_both (is_name_byte n) (list_all is_name_byte ns) all in
     ap (λ o. with_word o (bare names (is_name_byte n) (ns ++ rest))) (named_first names n (ns ++ rest) (n ∷ ns) p.0 (run_name (n ∷ ns) rest all stops))
     ∙ ap (λ t. word_of names (n ∷ ns) ∷ bare names t (ns ++ rest)) p.0
     ∙ ap (λ v. v ∷ bare names true (ns ++ rest)) e

@@ -14,6 +14,7 @@ mod words;
 pub use cond_error::CondError;
 pub use parsing::parse_cond;
 pub use printing::print_cond;
+pub use std::alloc::AllocError as NoMemory;
 
 /// The greatest number of terms of a condition that is read.
 pub const MOST_TERMS: usize = 64;

@@ -1,6 +1,6 @@
 //! Reading a condition.
 
-ghost use Rattle.std.specs.Prelude.{◌≡◌, ◌<◌, ◌≤◌, ◌^◌, ℕ, length, IfOk, IfErr, option_map};
+ghost use Rattle.std.specs.Prelude.{◌≡◌, ◌<◌, ◌≤◌, ◌^◌, length, IfOk, IfErr, option_map};
 ghost use Rattle.arbac_policy.specs.Truth.{Term, term_of, IsKnown};
 ghost use Rattle.cond_text.specs.Words.{placed_words as listed};
 ghost use Rattle.cond_text.specs.Machine.{start, finish};
@@ -222,6 +222,8 @@ pub fn parse_cond(alloc: Global, order: &Order, text: &str) -> Result<Cond, Cond
     // A text stands for one condition at most.
     ensures one { (left right : Term) → StandsFor order.now.names text.now left
         → StandsFor order.now.names text.now right → left ≡ right }
+    // The limits by number.
+    ensures limits { (MOST_TERMS ≡ 64) × (MOST_OPEN ≡ 64) }
 {
     read(alloc, order, text)
 }

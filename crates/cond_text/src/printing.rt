@@ -2,7 +2,7 @@
 
 ghost use Rattle.std.specs.Prelude.{◌≡◌, ◌++◌, ◌<◌, ◌≤◌, ℕ, List, [], length, get_or, IfOk, OnOk, codes, if◌then◌else◌};
 ghost use Rattle.std.specs.String.{string_bytes};
-ghost use Rattle.arbac_policy.specs.Truth.{Term, term_of, IsKnown};
+ghost use Rattle.arbac_policy.specs.Truth.{term_of, IsKnown};
 ghost use Rattle.cond_text.specs.Reading.{StandsFor, IsFaultless};
 ghost use Rattle.cond_text.specs.Grammar.{term_count};
 ghost use Rattle.cond_text.specs.Printing.{phrase_at, written, text_of, parentheses};
@@ -98,7 +98,7 @@ fn write_at(order: &Order, out: &mut String, level: Level, cond: &Cond) -> Resul
     }
 }
 
-/// The text with the fewest parentheses that stands for the condition.
+/// Writes the condition so that it is read back; no text for it has fewer parentheses.
 ///
 /// Its calls nest as deep as the condition does.
 pub fn print_cond(alloc: Global, order: &Order, cond: &Cond) -> Result<String, AllocError>

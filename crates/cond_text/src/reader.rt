@@ -1,6 +1,6 @@
 //! What was read of a condition, word by word.
 
-ghost use Rattle.std.specs.Prelude.{◌≡◌, ◌∷◌, IfOk, map, reverse, option_map, Some};
+ghost use Rattle.std.specs.Prelude.{◌≡◌, ◌∷◌, IfOk, option_map, Some};
 ghost use Rattle.arbac_policy.specs.Truth.{term_of};
 ghost use Rattle.cond_text.specs.Views.{frame_of, stack_of, state_of};
 ghost use Rattle.cond_text.specs.Machine.{and_with, or_with, operand_read, closing, step as next_state, step_operand as behind_operand, step_name as behind_name, step_conjunction as behind_conjunction};

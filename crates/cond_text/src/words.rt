@@ -1,6 +1,6 @@
 //! The words of a text.
 
-ghost use Rattle.std.specs.Prelude.{ℕ, ◌≡◌, ◌+◌, ◌<◌, ◌++◌, ◌^◌, length, IfOk, OnOk, codes};
+ghost use Rattle.std.specs.Prelude.{◌≡◌, ◌+◌, ◌<◌, ◌++◌, ◌^◌, length, IfOk, OnOk, codes};
 ghost use Rattle.std.specs.List.{take_while};
 ghost use Rattle.std.specs.Str.{bytes_eq};
 ghost use Rattle.role_order.specs.Names.{is_name_byte as is_byte};

@@ -5,7 +5,7 @@ use Rattle.std.proofs.lemmas.Bool.{eqb-true, eq-eqb, false≢true}
 use Rattle.std.proofs.lemmas.Bool.Decides.{nat_tests}
 use Rattle.role_order.specs.Lists.{Each}
 use Rattle.role_order.specs.Roles.{has_role, with_role, join_roles, IsIn, Rises}
-use Rattle.role_order.specs.Graph.{Graph, Leads, here, AreEdges, IsCycle, AreAcyclic, turned}
+use Rattle.role_order.specs.Graph.{Graph, Leads, here, AreEdges, AreAcyclic, turned}
 use Rattle.role_order.specs.Refusals.{IsOrder}
 use Rattle.role_order.specs.Closures.{AreAbove, raised, raised_set}
 use Rattle.role_order.specs.Reach.{seniors_of, juniors_of}
@@ -209,9 +209,6 @@ turned_acyclic edges h place edge at l =
     let back : Leads (map turned (take place edges)) edge.1 edge.0 = subst (λ t. Leads t edge.1 edge.0) (take-map edges place) l in
     let back' : Leads (map turned (take place edges)) old.0.0 old.0.1 = subst (λ (e : ℕ × ℕ). Leads (map turned (take place edges)) e.1 e.0) same back in
     h place old.0 old.1 (leads_back (take place edges) old.0.0 old.0.1 back')
-
-pub no_cycle : (edges : List (ℕ × ℕ)) (place : ℕ) → AreAcyclic edges → IsCycle edges place → ⊥
-no_cycle edges place h cycle = h place cycle.edge cycle.at cycle.back
 
 -- the juniors below a number, with the next number where it is one
 pub junior_more : (edges : List (ℕ × ℕ)) (role at : ℕ) (set : List ℕ) → ((junior : ℕ) → IsIn set junior ↔ ((junior < at) × Leads edges role junior))

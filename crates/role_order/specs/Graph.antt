@@ -2,12 +2,12 @@
 use Rattle.std.specs.Prelude.{ℕ, ◌≡◌, ◌<◌, List, Contains, slice_get, Some, take}
 use Rattle.role_order.specs.Lists.{Each}
 
--- roles are numbers from 0 in the order of the names; an edge is a pair (senior, junior)
+-- the place of a name, from 0, is its role; edges are pairs, with the senior in front
 pub record Graph : Type 0 where
   pub names : List (List ℕ)
   pub edges : List (ℕ × ℕ)
 
--- x >= y: a list of edges leads from x down to y
+-- x >= y: x is y, or an edge goes down from x to some role that is >= y
 pub data Leads (edges : List (ℕ × ℕ)) : ℕ → ℕ → Type 0 where
   here : {x : ℕ} → Leads edges x x
   down : {x y z : ℕ} → Contains edges (x, y) → Leads edges y z → Leads edges x z
@@ -27,7 +27,7 @@ turned edge = (edge.1, edge.0)
 abbrev pub AreAcyclic : List (ℕ × ℕ) → Type 0
 AreAcyclic edges = (place : ℕ) (edge : ℕ × ℕ) → slice_get edges place ≡ Some edge → ¬ Leads (take place edges) edge.1 edge.0
 
--- the first edge whose junior is already >= its senior by the edges before it
+-- the first edge that closes a circle: the edges in front of it lead from its junior down to its senior
 pub record IsCycle (edges : List (ℕ × ℕ)) (place : ℕ) : Type 0 where
   pub edge : ℕ × ℕ
   pub at : slice_get edges place ≡ Some edge

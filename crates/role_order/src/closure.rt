@@ -1,7 +1,7 @@
 //! Which role is above which, made once from the edges.
 
-ghost use Rattle.std.specs.Prelude.{ℕ, ◌≡◌, ◌<◌, ◌≤◌, ◌^◌, length, List, [], ◌∷◌, IfOk, IfSome, IfNone, take, Some, slice_get};
-ghost use Rattle.role_order.specs.Graph.{Leads, AreEdges, IsEdge, IsCycle, AreAcyclic};
+ghost use Rattle.std.specs.Prelude.{◌≡◌, ◌<◌, ◌≤◌, length, [], IfOk, IfSome, IfNone, Some};
+ghost use Rattle.role_order.specs.Graph.{AreEdges, IsEdge, IsCycle, AreAcyclic};
 ghost use Rattle.role_order.specs.Lists.{IsFirst};
 ghost use Rattle.role_order.specs.Closures.{AreAbove, IfTable, IfCycle, raised, raised_set};
 

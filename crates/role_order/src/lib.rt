@@ -9,10 +9,11 @@ mod role_set;
 #[cfg(test)]
 mod tests;
 
-pub use names::{is_name, is_name_byte};
+pub use names::{is_name, is_name_byte, place_in};
 pub use order::{Order, OrderError};
 pub use range::Range;
 pub use role_set::RoleSet;
+pub use std::alloc::AllocError as NoMemory;
 
 /// The greatest number of roles of an order.
 pub const MOST_ROLES: usize = 250;

@@ -1,12 +1,12 @@
 //! Names of roles, and where one stands among others.
 
-ghost use Rattle.std.specs.Prelude.{ℕ, ◌≡◌, ◌<◌, ◌^◌, length, position, IfSome, IfNone, IfOk, IfErr, not, false, Some, take, [], slice_get};
+ghost use Rattle.std.specs.Prelude.{◌≡◌, ◌<◌, length, position, IfSome, IfNone, not, false, Some};
 ghost use Rattle.std.specs.List.{list_all};
 ghost use Rattle.std.specs.Str.{bytes_eq};
 ghost use Rattle.std.specs.String.{string_bytes};
 ghost use Rattle.role_order.specs.Names.{texts, is_name as name, is_name_byte as is_byte, is_reserved as reserved, is_role_name as role_name, place_of, AreDifferent};
 ghost use Rattle.role_order.specs.Lists.{IsFirst};
-ghost use Rattle.role_order.specs.Refusals.{AreCounted, AreRoleNames, IsRepeated};
+ghost use Rattle.role_order.specs.Refusals.{AreRoleNames, IsRepeated};
 
 use crate::MOST_NAME_BYTES;
 

@@ -1,19 +1,19 @@
 //! Role orders.
 
-ghost use Rattle.std.specs.Prelude.{ℕ, ◌≡◌, ◌^◌, ◌<◌, ◌≤◌, [], List, ◌↔◌, IsTrue, length, vec_len, IfOk, IfErr, IfSome, Some, None, slice_get, map};
+ghost use Rattle.std.specs.Prelude.{ℕ, ◌≡◌, ◌^◌, ◌<◌, ◌≤◌, List, ◌↔◌, IsTrue, length, vec_len, IfOk, IfErr, IfSome, Some, None, slice_get, map};
 ghost use Rattle.role_order.specs.Names.{texts, place_of};
-ghost use Rattle.role_order.specs.Graph.{Leads, turned, AreEdges};
+ghost use Rattle.role_order.specs.Graph.{Leads, turned};
 ghost use Rattle.role_order.specs.Refusals.{AreNames, IsOrder, IsRefused};
 ghost use Rattle.role_order.specs.Reach.{seniors_of, juniors_of};
 ghost use Rattle.role_order.specs.Ranges.{IsInRange};
 ghost use Rattle.role_order.specs.Roles.{IsIn, Rises};
 
-use crate::MOST_ROLES;
 use crate::closure::{Closure, close, first_outside};
 use crate::names::{first_bad, first_repeated, place_in};
 use crate::range::Range;
 use crate::role_set::RoleSet;
-use std::alloc::{AllocError, AllocFailed, Global};
+use crate::{MOST_NAME_BYTES, MOST_ROLES};
+use std::alloc::{AllocError, Global};
 use std::marker::Model;
 
 /// Why names and edges are no role order: the first of these that fits. Places count from 0.
@@ -23,13 +23,13 @@ pub enum OrderError {
     NoRoles,
     /// There are more than `MOST_ROLES` names.
     TooManyRoles { count: u32 },
-    /// The first name that is no role name.
+    /// The first name that can't be a role's.
     BadName { place: u32 },
-    /// The first name that equals an earlier one, with the first such.
+    /// The first name that repeats an earlier one (`second`), and the first place where it stands (`first`).
     SameName { first: u32, second: u32 },
-    /// The first edge with an end that is no role.
+    /// The first edge from or to a number without a name.
     EdgeOutOfRange { place: u32 },
-    /// The first edge whose junior is already above its senior by the edges before it.
+    /// The first edge that closes a circle with those in front of it.
     Cycle { place: u32 },
     /// Want of memory.
     Memory,
@@ -157,6 +157,7 @@ impl Order {
         ensures edges { IfOk result (λ o. o.edges ≡ edges.items) }
         ensures ok { IfOk result (λ _. IsOrder (texts names.items) edges.items) }
         ensures err { IfErr result (IsRefused (texts names.items) edges.items) }
+        ensures limits { (MOST_ROLES ≡ 250) × (MOST_NAME_BYTES ≡ 64) }
     {
         if let Err(e) = check_names(&names) {
             return Err(e);
@@ -201,7 +202,7 @@ impl Order {
         self.names[role as usize].as_str()
     }
 
-    /// The role of the name, and none exactly where no name equals the text.
+    /// The role with this name, if a role has it.
     pub fn role_named(&self, text: &str) -> Option<u16>
         ensures role { IfSome result (λ role. role < length self.now.names) }
         ensures place { result ≡ place_of self.now.names text.now }
@@ -230,7 +231,7 @@ impl Order {
         &self.above[role as usize]
     }
 
-    /// Whether a list of edges leads from `x` down to `y`; each role leads to itself.
+    /// Whether `x` is `y` or stands above it.
     pub fn geq(&self, x: u16, y: u16) -> bool
         requires x { x < length self.now.names }
         requires y { y < length self.now.names }

@@ -205,6 +205,17 @@ fn a_range_of_the_department_has_its_roles(rt: HostRuntime) -> Result<(), Fail> 
     let order = order_of(&rt, alloc, names, &DEPARTMENT_EDGES)?
         .ok()
         .ok_or("no order")?;
+    for (at, text) in DEPARTMENT.iter().enumerate() {
+        assert_eq!(rt; order.role_named(text), Some(at as u16), "{text}");
+        assert_eq!(rt;
+            order.role_of_bytes(text.as_bytes()),
+            Some(at as u16),
+            "{text}"
+        );
+    }
+    for text in ["", "PL", "PL22", "pl2"] {
+        assert_eq!(rt; order.role_named(text), None, "{text}");
+    }
     for (low, high, low_open, high_open, texts) in &RANGES {
         let range = Range {
             low: order.role_named(low).ok_or("no role")?,
@@ -260,6 +271,18 @@ fn a_set_has_the_roles_that_it_was_given(rt: HostRuntime) {
     }
     assert!(rt; first.within(&ends) && !ends.within(&first));
     assert!(rt; first.meets(&ends) && !first.meets(&ends.less(&first)));
+    let low = RoleSet::empty().with(1).with(0);
+    for (role, joined, common, less) in [
+        (0, true, true, false),
+        (1, true, false, false),
+        (2, false, false, false),
+        (249, true, false, true),
+    ] {
+        assert_eq!(rt; ends.join(&low).has(role), joined, "at {role}");
+        assert_eq!(rt; ends.common(&low).has(role), common, "at {role}");
+        assert_eq!(rt; ends.less(&low).has(role), less, "at {role}");
+    }
+    assert!(rt; ends.meets(&low) && !ends.within(&low) && !low.within(&ends));
 }
 
 #[test]

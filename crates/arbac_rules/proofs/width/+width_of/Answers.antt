@@ -1,7 +1,7 @@
 use Rattle.std.proofs.Common.{◌∙◌, ap, sym, arith}
 use Rattle.arbac_policy.specs.declared.cond.Cond.{Cond}
 use Rattle.arbac_policy.specs.Truth.{both, either, term_of}
-use Rattle.cond_text.proofs.TermLemmas.{term_and, term_or}
+use Rattle.arbac_policy.proofs.TermLemmas.{term_and, term_or}
 use Rattle.arbac_rules.proofs.WidthLemmas.{product_fits, sum_fits}
 use Rattle.arbac_rules.proofs.width.+width_of.Goals as goal
 

@@ -3,7 +3,7 @@ use Rattle.std.specs.String.{string_bytes}
 use Rattle.arbac_policy.specs.declared.cond.Cond.{Cond}
 use Rattle.arbac_policy.specs.Truth.{Term, both, either, term_of}
 use Rattle.cond_text.specs.Printing.{phrase_at, written}
-use Rattle.cond_text.proofs.TermLemmas.{term_any, term_has, term_lacks, term_and, term_or}
+use Rattle.arbac_policy.proofs.TermLemmas.{term_any, term_has, term_lacks, term_and, term_or}
 use Rattle.cond_text.proofs.WrittenLemmas.{any_written, has_written, lacks_written, and_written, or_written}
 use Rattle.cond_text.proofs.printing.+write_at.Goals as goal
 
