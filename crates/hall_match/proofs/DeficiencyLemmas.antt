@@ -1,11 +1,11 @@
--- The items that stand against every matching are a deficient list.
+-- The items that stand against every matching are a deficient set.
 use Rattle.std.proofs.Common.{ℕ, ◌≡◌, ◌<◌, ◌≤◌, ◌+◌, List, length, arith, sym, refl, subst, Bool, true, Option, Some, None, eqb, inl, inr}
 use Rattle.std.specs.Prelude.{◌⊎◌, Contains}
 use Rattle.std.proofs.lemmas.Bool.{cases_lt, false≢true, eqb-true, eq-eqb, or_cases, or_left, or_right}
 use Rattle.hall_match.specs.Holding.{given_at, holders}
 use Rattle.hall_match.specs.Matchings.{IsDeficient, IsNeighbour, capacity_at}
 use Rattle.hall_match.specs.Rows.{row_at, HaveEdges}
-use Rattle.hall_match.specs.Search.{Scene, IsSeen, IsReachable, IsClosedRow}
+use Rattle.hall_match.specs.Search.{Instance, IsSeen, IsReachable, IsClosedRow}
 use Rattle.hall_match.specs.Blocking.{is_seen_at, AreBlocked}
 use Rattle.hall_match.proofs.HoldingLemmas.{given_inside}
 use Rattle.hall_match.proofs.MarkLemmas.{seen_places, seen_has, seen_only, marked_rising, increasing, full_limit, closed_counts}
@@ -16,7 +16,7 @@ pub seen_at : (seen : List Bool) (given : Option ℕ) → is_seen_at seen given 
 seen_at seen None e = absurd (false≢true e)
 seen_at seen (Some place) e = (place, refl, e)
 
-module _ (s : Scene) (left : ℕ) (edges : List (ℕ × ℕ)) (seen : List Bool) (items : List ℕ)
+module _ (s : Instance) (left : ℕ) (edges : List (ℕ × ℕ)) (seen : List Bool) (items : List ℕ)
     (rows : HaveEdges s.rows edges) (whole : length s.given ≡ left)
     (inside : s.item < length s.given) (none : (item : ℕ) → item < s.item + 1 → given_at s.given
     item ≡ None)

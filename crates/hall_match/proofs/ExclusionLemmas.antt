@@ -6,7 +6,7 @@ use Rattle.std.proofs.lemmas.Bool.{cases_order, false≢true}
 use Rattle.hall_match.specs.Holding.{is_at, given_at, holders}
 use Rattle.hall_match.specs.Matchings.{IsMatching, capacity_at, capacity_of, uses}
 use Rattle.hall_match.specs.Rows.{HaveEdges}
-use Rattle.hall_match.specs.Search.{Scene, IsSeen, IsClosed}
+use Rattle.hall_match.specs.Search.{Instance, IsSeen, IsClosed}
 use Rattle.hall_match.specs.Blocking.{is_seen_at}
 use Rattle.hall_match.proofs.CountLemmas.{sum-counts, sum-le, count-cons}
 use Rattle.hall_match.proofs.LawLemmas.{contained_any}
@@ -73,7 +73,7 @@ uses_fit left capacities edges list places m limited = sum-le (λ p. uses p list
         let e : unwrap_or (capacity_at capacities p) 0 ≡ most.0 = ap (λ o. unwrap_or o 0) most.1 in
         omega (arith, u, e)
 
-pub excluded : (s : Scene) (left : ℕ) (edges : List (ℕ × ℕ)) (seen : List Bool) (other : List ℕ)
+pub excluded : (s : Instance) (left : ℕ) (edges : List (ℕ × ℕ)) (seen : List Bool) (other : List ℕ)
     → HaveEdges s.rows edges → length s.given ≡ left → s.item < left
     → given_at s.given s.item ≡ None
     → ((item : ℕ) → item < s.item → given_at s.given item ≡ Some (get_or other item 0)) → IsClosed s

@@ -1,4 +1,4 @@
--- A deficient list stands against every matching, and there is only one least matching.
+-- A deficient set stands against every matching, and there is only one least matching.
 use Rattle.std.proofs.Common.{ℕ, ◌≡◌, ◌<◌, ◌≤◌, List, length, get_or, arith, sym, ap, true, Option, Some, unwrap_or}
 use Rattle.std.specs.Prelude.{Contains}
 use Rattle.std.specs.List.{list_any}

@@ -3,17 +3,17 @@ use Rattle.std.proofs.Common.{ℕ, ◌≡◌, ◌<◌, ◌+◌, List, [], ◌∷
 use Rattle.std.specs.Prelude.{◌⊎◌}
 use Rattle.std.proofs.lemmas.Bool.{cases_eq, cases_order}
 use Rattle.std.proofs.lemmas.List.{length-take-le, get_or-take, ext_get_or}
-use Rattle.hall_match.specs.Holding.{is_at, given_at, holders, IsHeld}
+use Rattle.hall_match.specs.Holding.{is_at, given_at, holders, IsPartialMatching}
 use Rattle.hall_match.specs.Matchings.{IsMatching, IsBefore, IsLeast, uses}
 use Rattle.hall_match.specs.Rows.{HaveEdges}
-use Rattle.hall_match.specs.Search.{Scene}
+use Rattle.hall_match.specs.Search.{Instance}
 use Rattle.hall_match.specs.Settling.{Settles}
 use Rattle.hall_match.specs.Settling.{AgreesTo, IsUpTo}
 use Rattle.hall_match.proofs.CountLemmas.{count-cons}
 use Rattle.hall_match.proofs.ExclusionLemmas.{excluded}
 
 -- one more item is settled: no other matching that agrees so far gives it a lesser place
-pub up_to_next : (s : Scene) (left : ℕ) (edges : List (ℕ × ℕ)) (given new : List (Option ℕ))
+pub up_to_next : (s : Instance) (left : ℕ) (edges : List (ℕ × ℕ)) (given new : List (Option ℕ))
     (other : List ℕ) → HaveEdges s.rows edges → length s.given ≡ left → s.item < left
     → given_at s.given s.item ≡ None
     → ((k : ℕ) → k < s.item → given_at s.given k ≡ given_at given k) → Settles s new → IsMatching
@@ -69,7 +69,7 @@ uses_are (g ∷ gs) (x ∷ xs) place e h =
 module _ (left : ℕ) (capacities : List (Option ℕ)) (rows : List (List ℕ)) (edges : List (ℕ × ℕ))
     (given : List (Option ℕ)) (list : List ℕ) (have : HaveEdges rows edges)
     (whole : length given ≡ left) (long : length list ≡ length given)
-    (held : IsHeld capacities rows given) (all : (k : ℕ) → k < length given → given_at given k ≡
+    (held : IsPartialMatching capacities rows given) (all : (k : ℕ) → k < length given → given_at given k ≡
     Some (get_or list k 0)) where
   pub matching_from : IsMatching left capacities edges list
   matching_from = record {

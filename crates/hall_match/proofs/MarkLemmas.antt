@@ -7,7 +7,7 @@ use Rattle.std.proofs.lemmas.Bool.{eqb-true, ltb-false, or_cases, false≢true}
 use Rattle.std.proofs.lemmas.List.Sums.{sum_by-le-sum_by}
 use Rattle.hall_match.specs.Holding.{is_at, holders, has_more}
 use Rattle.hall_match.specs.Matchings.{capacity_at, capacity_of}
-use Rattle.hall_match.specs.Search.{Scene, IsSeen, IsClosed}
+use Rattle.hall_match.specs.Search.{Instance, IsSeen, IsClosed}
 use Rattle.hall_match.specs.Blocking.{is_seen_at}
 use Rattle.hall_match.proofs.CountLemmas.{IsRising, sum-counts, sum-le}
 
@@ -118,7 +118,7 @@ full_limit None used e = absurd (false≢true (sym e))
 full_limit (Some most) used e = (most, refl, ltb-false used most e)
 
 -- the capacities of closed places are together at most the items that are given one
-pub closed_counts : (s : Scene) (seen : List Bool) → IsClosed s seen
+pub closed_counts : (s : Instance) (seen : List Bool) → IsClosed s seen
     → capacity_of s.capacities (seen_places seen) ≤ count_by (is_seen_at seen) s.given
 closed_counts s seen h =
     let a = sum-le (λ p. unwrap_or (capacity_at s.capacities p) 0) (λ p. holders p s.given)

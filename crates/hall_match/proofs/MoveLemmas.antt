@@ -1,4 +1,4 @@
--- Items that are moved along a way, from its end to where it begins.
+-- Items that are moved along an augmenting path, from its end to where it begins.
 use Rattle.std.proofs.Common.{ℕ, ◌≡◌, ◌<◌, ◌≤◌, ◌+◌, List, length, set, arith, sym, ◌∙◌, ap, refl, subst, true, Option, Some, None, inl, inr}
 use Rattle.std.specs.Prelude.{◌⊎◌, slice_get, Contains}
 use Rattle.std.proofs.lemmas.Bool.{cases_eq, ltb-true, lt-ltb}
@@ -6,10 +6,10 @@ use Rattle.std.proofs.lemmas.Option.{slice_get_within}
 use Rattle.std.proofs.lemmas.List.{length-set, get_or-set_same, get_or-set_other}
 use Rattle.hall_match.specs.declared.search.Reached.{Reached}
 use Rattle.hall_match.specs.declared.search.Move.{Move}
-use Rattle.hall_match.specs.Holding.{given_at, holders, has_more, has_room, IsHeld}
+use Rattle.hall_match.specs.Holding.{given_at, holders, has_more, has_room, IsPartialMatching}
 use Rattle.hall_match.specs.Matchings.{capacity_at}
 use Rattle.hall_match.specs.Rows.{row_at, AreInside}
-use Rattle.hall_match.specs.Search.{Scene, IsTrail, IsWay, IsLeastWay}
+use Rattle.hall_match.specs.Search.{Instance, IsAlternatingTree, IsStep, IsLeastPath}
 use Rattle.hall_match.specs.Settling.{IsGiven, Settles}
 use Rattle.hall_match.proofs.HoldingLemmas.{one_at, one_same, one_other, holders-set, given_inside}
 
@@ -28,9 +28,9 @@ fits_more (Some n) used h = lt-ltb used n (h n refl)
 -- an item that is given a place with room, whatever it had before
 module _ (capacities : List (Option ℕ)) (rows : List (List ℕ)) (given : List (Option ℕ))
     (item place : ℕ) (inside : item < length given) where
-  pub held_set : IsHeld capacities rows given → Contains (row_at rows item) place
+  pub held_set : IsPartialMatching capacities rows given → Contains (row_at rows item) place
       → has_room capacities given place ≡ true
-      → IsHeld capacities rows (set given item (Some place))
+      → IsPartialMatching capacities rows (set given item (Some place))
   held_set h near room = record {
     neighbours = λ i p e. neighbours i p e (cases_eq i item);
     within = λ p most e. within p most e (cases_eq place p);
@@ -61,7 +61,7 @@ module _ (capacities : List (Option ℕ)) (rows : List (List ℕ)) (given : List
           let l = h.within p most e in omega (arith, a, b, l)
 
   -- the place that it leaves has room then
-  pub room_left : (from : ℕ) → IsHeld capacities rows given → given_at given item ≡ Some from
+  pub room_left : (from : ℕ) → IsPartialMatching capacities rows given → given_at given item ≡ Some from
       → (from ≡ place → ⊥) → has_room capacities (set given item (Some place)) from ≡ true
   room_left from h e n = fits_more (capacity_at capacities from)
       (holders from (set given item (Some place))) fits
@@ -75,17 +75,17 @@ module _ (capacities : List (Option ℕ)) (rows : List (List ℕ)) (given : List
           let l = h.within from most is in omega (arith, a, b, d, l)
 
 -- the moves down to one place are made: it has room, and the users of earlier places stand as at first
-pub record Moving (s : Scene) (way : List Reached) (now : List (Option ℕ)) (here : Reached) : Type 0
+pub record Moving (s : Instance) (path : List Reached) (now : List (Option ℕ)) (here : Reached) : Type 0
   where
     pub whole : length now ≡ length s.given
-    pub held : IsHeld s.capacities s.rows now
+    pub held : IsPartialMatching s.capacities s.rows now
     pub free : given_at now s.item ≡ None
     pub at : ℕ
-    pub is_here : slice_get way at ≡ Some here
+    pub is_here : slice_get path at ≡ Some here
     pub room : has_room s.capacities now here.place ≡ true
     pub before : (item : ℕ) → item < s.item → given_at now item ≡ given_at s.given item
     pub after : (item : ℕ) → s.item < item → IsGiven s.given item → IsGiven now item
-    pub early : (k : ℕ) (r : Reached) (item : ℕ) → k < at → slice_get way k ≡ Some r
+    pub early : (k : ℕ) (r : Reached) (item : ℕ) → k < at → slice_get path k ≡ Some r
         → given_at s.given item ≡ Some r.place → given_at now item ≡ Some r.place
 
 some_same : (a b : Reached) → Some a ≡ Some b → a ≡ b
@@ -96,22 +96,22 @@ abbrev pub moves_left : Option Move → ℕ
 moves_left None = 0
 moves_left (Some move) = move.from + 1
 
--- one move, by the way that its place was reached
-module _ (s : Scene) (way : List Reached) (now : List (Option ℕ)) (here : Reached) (move : Move)
-    (t : IsTrail s way) (m : Moving s way now here) (by : here.by ≡ Some move) where
-  pub move_way : IsWay s way m.at here.place (Some move)
-  move_way = subst (λ (o : Option Move). IsWay s way m.at here.place o) by
-      (t.ways m.at here m.is_here)
+-- one move, by the step with which its place was reached
+module _ (s : Instance) (path : List Reached) (now : List (Option ℕ)) (here : Reached) (move : Move)
+    (t : IsAlternatingTree s path) (m : Moving s path now here) (by : here.by ≡ Some move) where
+  pub move_by : IsStep s path m.at here.place (Some move)
+  move_by = subst (λ (o : Option Move). IsStep s path m.at here.place o) by
+      (t.steps m.at here m.is_here)
 
-  pub move_user : (s.item < move.item) × (move.item < length now) × (move.from < length way)
+  pub move_user : (s.item < move.item) × (move.item < length now) × (move.from < length path)
   move_user =
-      let w = move_way in
+      let w = move_by in
       let user = given_inside s.given move.item w.0.place w.4 in
       let whole = m.whole in
-      (w.3, omega (arith, user, whole), slice_get_within way move.from w.0 w.2)
+      (w.3, omega (arith, user, whole), slice_get_within path move.from w.0 w.2)
 
-  pub move_steps : (next : Reached) → slice_get way move.from ≡ Some next
-      → Moving s way (set now move.item (Some here.place)) next
+  pub move_steps : (next : Reached) → slice_get path move.from ≡ Some next
+      → Moving s path (set now move.item (Some here.place)) next
   move_steps next is = record {
     whole = length-set now move.item (Some here.place) ∙ m.whole;
     held = held_set s.capacities s.rows now move.item here.place inside m.held w.5 m.room;
@@ -129,8 +129,8 @@ module _ (s : Scene) (way : List Reached) (now : List (Option ℕ)) (here : Reac
         (let a = w.1 in omega (arith, a, l)) e g;
   }
     where
-      w : IsWay s way m.at here.place (Some move)
-      w = move_way
+      w : IsStep s path m.at here.place (Some move)
+      w = move_by
 
       from : w.0 ≡ next
       from = some_same w.0 next (sym w.2 ∙ is)
@@ -162,18 +162,18 @@ module _ (s : Scene) (way : List Reached) (now : List (Option ℕ)) (here : Reac
             (Some here.place) None n ∙ r.1,
       )
 
-      other : (k : ℕ) (r : Reached) → k < move.from → slice_get way k ≡ Some r
+      other : (k : ℕ) (r : Reached) → k < move.from → slice_get path k ≡ Some r
           → given_at s.given move.item ≡ Some r.place → ⊥
       other k r l e g =
           let there = stood in
           let same : r.place ≡ next.place = cc in
           let n = t.apart k move.from r next e is same in omega (arith, n, l)
 
--- the item is given the place where the way begins
-pub move_ends : (s : Scene) (way : List Reached) (now : List (Option ℕ)) (here : Reached)
-    → IsLeastWay s way → s.item < length now → Moving s way now here → here.by ≡ None
+-- the item is given the place where the augmenting path begins
+pub move_ends : (s : Instance) (path : List Reached) (now : List (Option ℕ)) (here : Reached)
+    → IsLeastPath s path → s.item < length now → Moving s path now here → here.by ≡ None
     → Settles s (set now s.item (Some here.place))
-move_ends s way now here f inside m by = record {
+move_ends s path now here f inside m by = record {
   whole = length-set now s.item (Some here.place) ∙ m.whole;
   held = held_set s.capacities s.rows now s.item here.place inside m.held near m.room;
   place = here.place;
@@ -192,32 +192,32 @@ move_ends s way now here f inside m by = record {
 }
   where
     start : m.at ≡ 0
-    start = subst (λ (o : Option Move). IsWay s way m.at here.place o) by
-        (f.found.trail.ways m.at here m.is_here)
+    start = subst (λ (o : Option Move). IsStep s path m.at here.place o) by
+        (f.found.tree.steps m.at here m.is_here)
 
     first : f.first ≡ here
-    first = some_same f.first here (sym f.is_first ∙ ap (slice_get way) (sym start) ∙ m.is_here)
+    first = some_same f.first here (sym f.is_first ∙ ap (slice_get path) (sym start) ∙ m.is_here)
 
     near : Contains (row_at s.rows s.item) here.place
     near = subst (λ (r : Reached). Contains (row_at s.rows s.item) r.place) first f.neighbour
 
 -- a move leads to a place that was reached before
-pub move_falls : (s : Scene) (way : List Reached) (here next : Reached) (move : Move) (at : ℕ)
-    → IsTrail s way → slice_get way at ≡ Some here → here.by ≡ Some move
-    → slice_get way move.from ≡ Some next → moves_left next.by < moves_left here.by
-move_falls s way here next move at t e by is = rw by (lower next.by (t.ways move.from next is))
+pub move_falls : (s : Instance) (path : List Reached) (here next : Reached) (move : Move) (at : ℕ)
+    → IsAlternatingTree s path → slice_get path at ≡ Some here → here.by ≡ Some move
+    → slice_get path move.from ≡ Some next → moves_left next.by < moves_left here.by
+move_falls s path here next move at t e by is = rw by (lower next.by (t.steps move.from next is))
   where
-    lower : (by : Option Move) → IsWay s way move.from next.place by → moves_left by < move.from + 1
+    lower : (by : Option Move) → IsStep s path move.from next.place by → moves_left by < move.from + 1
     lower None w = omega arith
     lower (Some other) w = let l = w.1 in omega (arith, l)
 
--- each place of a way is in a row
-pub way_inside : (s : Scene) (way : List Reached) (here : Reached) (at count : ℕ) → IsLeastWay s way
-    → slice_get way at ≡ Some here → AreInside s.rows count → here.place < count
-way_inside s way here at count f e inside = either here.by (f.found.trail.ways at here e)
+-- each place of an augmenting path is in a row
+pub path_inside : (s : Instance) (path : List Reached) (here : Reached) (at count : ℕ) → IsLeastPath s path
+    → slice_get path at ≡ Some here → AreInside s.rows count → here.place < count
+path_inside s path here at count f e inside = either here.by (f.found.tree.steps at here e)
   where
-    either : (by : Option Move) → IsWay s way at here.place by → here.place < count
+    either : (by : Option Move) → IsStep s path at here.place by → here.place < count
     either None w =
-        let first = some_same f.first here (sym f.is_first ∙ ap (slice_get way) (sym w) ∙ e) in
+        let first = some_same f.first here (sym f.is_first ∙ ap (slice_get path) (sym w) ∙ e) in
         subst (λ (r : Reached). r.place < count) first (inside s.item f.first.place f.neighbour)
     either (Some move) w = inside move.item here.place w.5

@@ -11,7 +11,7 @@ use Rattle.hall_match.specs.declared.search.Reached.{Reached}
 use Rattle.hall_match.specs.declared.search.Move.{Move}
 use Rattle.hall_match.specs.Holding.{has_room}
 use Rattle.hall_match.specs.Rows.{row_at, AreInside}
-use Rattle.hall_match.specs.Search.{Scene, IsSeen, IsRowSeen, IsReachable, IsShutFrom, IsClosed, IsWay, IsTrail, IsWaiting, IsSearch, IsFound, IsFoundFrom, IsLeastWay, GoesOn, IsUserAt}
+use Rattle.hall_match.specs.Search.{Instance, IsSeen, IsRowSeen, IsReachable, IsShutFrom, IsClosed, IsStep, IsAlternatingTree, IsWaiting, IsSearch, IsFound, IsFoundFrom, IsLeastPath, GoesOn, IsUserAt}
 
 -- a list with one more at its end
 pub get-push_old : {X : Type 0} (xs : List X) (y : X) (k : ℕ) (x : X) → slice_get xs k ≡ Some x
@@ -76,20 +76,20 @@ unseen-set seen place l e =
     omega (arith, a, b)
 
 -- what holds of the seen places goes on to hold as more are seen
-pub reachable_still : (s : Scene) (old new : List Bool) (place : ℕ)
+pub reachable_still : (s : Instance) (old new : List Bool) (place : ℕ)
     → ((p : ℕ) → IsSeen old p → IsSeen new p) → IsReachable s old place → IsReachable s new place
 reachable_still s old new place up (inl c) = inl c
 reachable_still s old new place up (inr h) = inr (h.0, h.1, up h.0 h.2, h.3, h.4, h.5)
 
-pub shut_still : (s : Scene) (old new : List Bool) (place low : ℕ)
+pub shut_still : (s : Instance) (old new : List Bool) (place low : ℕ)
     → ((p : ℕ) → IsSeen old p → IsSeen new p) → IsShutFrom s old place low
     → IsShutFrom s new place low
 shut_still s old new place low up h user l e next c = up next (h user l e next c)
 
-pub way_still : (s : Scene) (reached : List Reached) (more : Reached) (at place : ℕ)
-    (by : Option Move) → IsWay s reached at place by → IsWay s (reached ++ more ∷ []) at place by
-way_still s reached more at place None h = h
-way_still s reached more at place (Some move) h = (
+pub step_still : (s : Instance) (reached : List Reached) (more : Reached) (at place : ℕ)
+    (by : Option Move) → IsStep s reached at place by → IsStep s (reached ++ more ∷ []) at place by
+step_still s reached more at place None h = h
+step_still s reached more at place (Some move) h = (
   h.0,
   h.1,
   get-push_old reached more move.from h.0
@@ -104,25 +104,25 @@ pub waiting_still : (reached : List Reached) (more : Reached) (low place : ℕ)
 waiting_still reached more low place h = (h.0, h.1, h.2, get-push_old reached more h.0 h.1 h.3, h.4)
 
 -- a search that sees a place for the first time
-module _ (s : Scene) (seen : List Bool) (reached : List Reached) (more : Reached) where
-  pub trail_push : IsTrail s reached
+module _ (s : Instance) (seen : List Bool) (reached : List Reached) (more : Reached) where
+  pub tree_push : IsAlternatingTree s reached
       → ((at : ℕ) (here : Reached) → slice_get reached at ≡ Some here → IsSeen seen here.place)
-      → get_or seen more.place false ≡ false → IsWay s reached (length reached) more.place more.by
-      → IsTrail s (reached ++ more ∷ [])
-  trail_push t marked new way = record {
-    ways = λ at here e. ways at here (get-push_cases reached more at here e);
+      → get_or seen more.place false ≡ false → IsStep s reached (length reached) more.place more.by
+      → IsAlternatingTree s (reached ++ more ∷ [])
+  tree_push t marked new step = record {
+    steps = λ at here e. steps at here (get-push_cases reached more at here e);
     apart = λ at other here there e f same. apart at other here there
         (get-push_cases reached more at here e) (get-push_cases reached more other there f) same;
   }
     where
-      ways : (at : ℕ) (here : Reached)
+      steps : (at : ℕ) (here : Reached)
           → (slice_get reached at ≡ Some here) ⊎ ((at ≡ length reached) × (more ≡ here))
-          → IsWay s (reached ++ more ∷ []) at here.place here.by
-      ways at here (inl e) = way_still s reached more at here.place here.by (t.ways at here e)
-      ways at here (inr e) =
-          let w = way_still s reached more (length reached) more.place more.by way in
-          let v : IsWay s (reached ++ more ∷ []) at more.place more.by = rw e.0 w in
-          subst (λ (r : Reached). IsWay s (reached ++ more ∷ []) at r.place r.by) e.1 v
+          → IsStep s (reached ++ more ∷ []) at here.place here.by
+      steps at here (inl e) = step_still s reached more at here.place here.by (t.steps at here e)
+      steps at here (inr e) =
+          let w = step_still s reached more (length reached) more.place more.by step in
+          let v : IsStep s (reached ++ more ∷ []) at more.place more.by = rw e.0 w in
+          subst (λ (r : Reached). IsStep s (reached ++ more ∷ []) at r.place r.by) e.1 v
 
       met : (at : ℕ) (here : Reached) → slice_get reached at ≡ Some here → more.place ≡ here.place
           → ⊥
@@ -142,11 +142,11 @@ module _ (s : Scene) (seen : List Bool) (reached : List Reached) (more : Reached
 
   pub search_push : (low : ℕ) → IsSearch s seen reached low → more.place < length seen
       → get_or seen more.place false ≡ false → low ≤ length reached
-      → IsWay s reached (length reached) more.place more.by
+      → IsStep s reached (length reached) more.place more.by
       → IsReachable s seen more.place → has_room s.capacities s.given more.place ≡ false → IsSearch
       s (set seen more.place true) (reached ++ more ∷ []) low
-  search_push low h inside new up way reach full = record {
-    trail = trail_push h.trail h.marked new way;
+  search_push low h inside new up step reach full = record {
+    tree = tree_push h.tree h.marked new step;
     marked = λ at here e. marked at here (get-push_cases reached more at here e);
     reachable = λ place e. reachable_still s seen (set seen more.place true) place
         (seen_still seen more.place) (reachable place (seen_cases seen more.place place e));
@@ -184,11 +184,11 @@ module _ (s : Scene) (seen : List Bool) (reached : List Reached) (more : Reached
           either (inr waits) = inr (waiting_still reached more low place waits)
 
   pub found_push : (low : ℕ) → IsSearch s seen reached low → get_or seen more.place false ≡ false
-      → IsWay s reached (length reached) more.place more.by
+      → IsStep s reached (length reached) more.place more.by
       → has_room s.capacities s.given more.place ≡ true
       → IsFound s (reached ++ more ∷ [])
-  found_push low h new way room = record {
-    trail = trail_push h.trail h.marked new way;
+  found_push low h new step room = record {
+    tree = tree_push h.tree h.marked new step;
     last = more;
     is_last = (let e = length_push reached more in let n : length (reached ++ more ∷ []) - 1 ≡
         length reached = omega (arith, e) in rw n (get-push_last reached more));
@@ -223,12 +223,12 @@ goes_further old mid new a b c g h = record {
 }
 
 -- the place at the number has been gone through
-pub search_next : (s : Scene) (seen : List Bool) (reached : List Reached) (at : ℕ) (here : Reached)
+pub search_next : (s : Instance) (seen : List Bool) (reached : List Reached) (at : ℕ) (here : Reached)
     → slice_get reached at ≡ Some here → IsShutFrom s seen here.place (s.item + 1)
     → IsSearch s seen reached at
     → IsSearch s seen reached (at + 1)
 search_next s seen reached at here is shut h = record {
-  trail = h.trail;
+  tree = h.tree;
   marked = h.marked;
   reachable = h.reachable;
   full = h.full;
@@ -250,7 +250,7 @@ search_next s seen reached at here is shut h = record {
         which (inr n) = let l = w.2 in inr (w.0, w.1, omega (arith, n, l), w.3, w.4)
 
 -- a search that has gone through all
-pub search_ends : (s : Scene) (seen : List Bool) (reached : List Reached) (low : ℕ)
+pub search_ends : (s : Instance) (seen : List Bool) (reached : List Reached) (low : ℕ)
     → length reached ≤ low → IsSearch s seen reached low → IsClosed s seen
 search_ends s seen reached low l h = record {
   reachable = h.reachable;
@@ -265,22 +265,22 @@ search_ends s seen reached low l h = record {
         (omega (arith, a, b, l))
 
 -- a search that begins, where what was seen before is closed
-module _ (s : Scene) (seen : List Bool) (place : ℕ) where
+module _ (s : Instance) (seen : List Bool) (place : ℕ) where
   abbrev pub start : List Reached
   start = record { place = place; by = None } ∷ []
 
-  pub trail_begins : IsTrail s start
-  trail_begins = record {
-    ways = λ at here e. ways at here e;
+  pub tree_begins : IsAlternatingTree s start
+  tree_begins = record {
+    steps = λ at here e. steps at here e;
     apart = λ at other here there e f same. apart at other here there e f;
   }
     where
-      ways : (at : ℕ) (here : Reached) → slice_get start at ≡ Some here
-          → IsWay s start at here.place here.by
-      ways zero here e =
+      steps : (at : ℕ) (here : Reached) → slice_get start at ≡ Some here
+          → IsStep s start at here.place here.by
+      steps zero here e =
           let same : ◌≡◌ {A = Reached} (record { place = place; by = None }) here = cc in
-          subst (λ (r : Reached). IsWay s start 0 r.place r.by) same refl
-      ways (suc at) here e = absurd (cc)
+          subst (λ (r : Reached). IsStep s start 0 r.place r.by) same refl
+      steps (suc at) here e = absurd (cc)
 
       apart : (at other : ℕ) (here there : Reached) → slice_get start at ≡ Some here
           → slice_get start other ≡ Some there → at ≡ other
@@ -291,7 +291,7 @@ module _ (s : Scene) (seen : List Bool) (place : ℕ) where
   pub search_begins : IsClosed s seen → place < length seen → Contains (row_at s.rows s.item) place
       → has_room s.capacities s.given place ≡ false → IsSearch s (set seen place true) start 0
   search_begins h inside near full = record {
-    trail = trail_begins;
+    tree = tree_begins;
     marked = λ at here e. marked at here e;
     reachable = λ p e. reachable_still s seen (set seen place true) p (seen_still seen place)
         (reachable p (seen_cases seen place p e));
@@ -323,7 +323,7 @@ module _ (s : Scene) (seen : List Bool) (place : ℕ) where
 
   pub found_begins : has_room s.capacities s.given place ≡ true → IsFound s start
   found_begins room = record {
-    trail = trail_begins;
+    tree = tree_begins;
     last = record { place = place; by = None };
     is_last = refl;
     room = room;
@@ -340,10 +340,10 @@ row_seen seen row items e h = rw (← e) (λ place c. let r = h c.0 c.1 in let d
     c.0 0 place c.1 ∙ c.2 in rw d at r)
 
 -- a place of the row of a later user
-module _ (s : Scene) (seen : List Bool) (reached : List Reached) (by : Move) (place : ℕ) where
-  pub way_by : s.item < by.item → IsUserAt s.given reached by.item by.from
-      → Contains (row_at s.rows by.item) place → IsWay s reached (length reached) place (Some by)
-  way_by later user c = (
+module _ (s : Instance) (seen : List Bool) (reached : List Reached) (by : Move) (place : ℕ) where
+  pub step_by : s.item < by.item → IsUserAt s.given reached by.item by.from
+      → Contains (row_at s.rows by.item) place → IsStep s reached (length reached) place (Some by)
+  step_by later user c = (
     user.0,
     slice_get_within reached by.from user.0 user.1,
     user.1,
@@ -369,7 +369,7 @@ module _ (s : Scene) (seen : List Bool) (reached : List Reached) (by : Move) (pl
         c,
       ) in
       search_push s seen reached (record { place = place; by = Some by }) by.from h inside new
-      (omega (arith, before)) (way_by later user c) reach full
+      (omega (arith, before)) (step_by later user c) reach full
 
   pub row_found : IsSearch s seen reached by.from → s.item < by.item
       → IsUserAt s.given reached by.item by.from → Contains (row_at s.rows by.item) place
@@ -377,7 +377,7 @@ module _ (s : Scene) (seen : List Bool) (reached : List Reached) (by : Move) (pl
       → has_room s.capacities s.given place ≡ true → IsFound s
       (reached ++ record { place = place; by = Some by } ∷ [])
   row_found h later user c new room = found_push s seen reached
-      (record { place = place; by = Some by }) by.from h new (way_by later user c) room
+      (record { place = place; by = Some by }) by.from h new (step_by later user c) room
 
 pub user_still : (given : List (Option ℕ)) (before after : List Reached) (item at : ℕ)
     → ((k : ℕ) (here : Reached) → slice_get before k ≡ Some here → slice_get after k ≡ Some here)
@@ -405,14 +405,14 @@ next_seen old new items i up here h k l = either (cases_eq k i)
     either (inr n) = up (get_or items k 0) (h k (omega (arith, n, l)))
 
 -- what one more place of a row does to a search
-pub record RowStep (s : Scene) (old new : List Bool) (before after : List Reached)
+pub record RowStep (s : Instance) (old new : List Bool) (before after : List Reached)
     (place low : ℕ) : Type 0 where
   pub goes_on : GoesOn old new before after
   pub here : IsSeen new place
   pub full : has_room s.capacities s.given place ≡ false → IsSearch s new after low
   pub found : has_room s.capacities s.given place ≡ true → IsFound s after
 
-pub row_step : (s : Scene) (seen new : List Bool) (before reached after : List Reached) (by : Move)
+pub row_step : (s : Instance) (seen new : List Bool) (before reached after : List Reached) (by : Move)
     (place : ℕ) → IsSearch s seen reached by.from → s.item < by.item
     → ((k : ℕ) (here : Reached) → slice_get before k ≡ Some here → slice_get reached k ≡ Some here)
     → IsUserAt s.given before by.item by.from → Contains (row_at s.rows by.item) place → place <
@@ -441,12 +441,12 @@ lesser_seen seen row i up inside h place c less = either (cases_lt c.0 i)
     either (inl l) = let r = h c.0 l in rw there at r
     either (inr l) = let r = up i c.0 0 l c.1 in let e = there in absurd (omega (arith, r, e, less))
 
-pub least_way : (s : Scene) (seen : List Bool) (reached : List Reached) (items : List ℕ) (i : ℕ)
+pub least_path : (s : Instance) (seen : List Bool) (reached : List Reached) (items : List ℕ) (i : ℕ)
     → items ≡ row_at s.rows s.item → IsNonDecreasing (row_at s.rows s.item) → i < length items
     → IsClosed s seen
     → ((k : ℕ) → k < i → IsSeen seen (get_or items k 0)) → IsFoundFrom s reached (get_or items i 0)
-    → IsLeastWay s reached
-least_way s seen reached items i e up inside closed h f = record {
+    → IsLeastPath s reached
+least_path s seen reached items i e up inside closed h f = record {
   found = f.found;
   first = record { place = get_or items i 0; by = None };
   is_first = f.begins;
@@ -457,7 +457,7 @@ least_way s seen reached items i e up inside closed h f = record {
 }
 
 -- the same of the next place of the row, which is read as not seen
-pub row_next : (s : Scene) (seen new : List Bool) (before reached after : List Reached) (by : Move)
+pub row_next : (s : Instance) (seen new : List Bool) (before reached after : List Reached) (by : Move)
     (items : List ℕ) (i : ℕ) (read : Bool) → IsSearch s seen reached by.from → s.item < by.item
     → ((k : ℕ) (here : Reached) → slice_get before k ≡ Some here → slice_get reached k ≡ Some here)
     → IsUserAt s.given before by.item by.from → items ≡ row_at s.rows by.item → i < length items

@@ -1,20 +1,20 @@
--- What is left of an allotment once an item is settled.
+-- What is left of an partial_matching once an item is settled.
 use Rattle.std.proofs.Common.{ℕ, ◌≡◌, ◌<◌, ◌≤◌, List, length, set, arith, sym, ◌∙◌, ap, refl, subst, Bool, true, false, Option, Some, None, inl, inr}
 use Rattle.std.specs.Prelude.{◌⊎◌, Contains, MatchOption, IsSome}
 use Rattle.std.specs.Option.{is_some}
 use Rattle.std.proofs.lemmas.Bool.{cases_eq, cases_lt, false≢true}
 use Rattle.std.proofs.lemmas.List.{length-set, get_or-set_same, get_or-set_other, get_or_past, set_past}
 use Rattle.std.proofs.lemmas.List.Elements.{All-contains}
-use Rattle.hall_match.specs.Holding.{given_at, holders, has_room, IsHeld}
+use Rattle.hall_match.specs.Holding.{given_at, holders, has_room, IsPartialMatching}
 use Rattle.hall_match.specs.Matchings.{AreEdges, capacity_at}
 use Rattle.hall_match.specs.Rows.{row_at, HaveEdges, AreInside}
-use Rattle.hall_match.specs.Search.{Scene, IsClosedRow}
+use Rattle.hall_match.specs.Search.{Instance, IsClosedRow}
 use Rattle.hall_match.specs.Settling.{IsGiven, Settles}
 use Rattle.hall_match.proofs.HoldingLemmas.{holders-release, holders-set}
 use Rattle.hall_match.proofs.MoveLemmas.{fits_more}
 
 -- the items from the settled one on are given places, where the later ones were
-pub given_down : (s : Scene) (new : List (Option ℕ)) → Settles s new → (k : ℕ) → s.item ≤ k
+pub given_down : (s : Instance) (new : List (Option ℕ)) → Settles s new → (k : ℕ) → s.item ≤ k
     → (s.item < k → IsGiven s.given k) → IsGiven new k
 given_down s new h k l later = either (cases_eq k s.item)
   where
@@ -24,7 +24,7 @@ given_down s new h k l later = either (cases_eq k s.item)
 
 -- an item whose place is taken from it
 module _ (capacities : List (Option ℕ)) (rows : List (List ℕ)) (given : List (Option ℕ)) (item : ℕ)
-    (held : IsHeld capacities rows given) where
+    (held : IsPartialMatching capacities rows given) where
   pub release_free : given_at (set given item None) item ≡ None
   release_free = either (cases_lt item (length given))
     where
@@ -37,7 +37,7 @@ module _ (capacities : List (Option ℕ)) (rows : List (List ℕ)) (given : List
   pub release_other : (k : ℕ) → (k ≡ item → ⊥) → given_at (set given item None) k ≡ given_at given k
   release_other k n = get_or-set_other given item k None None n
 
-  pub held_release : IsHeld capacities rows (set given item None)
+  pub held_release : IsPartialMatching capacities rows (set given item None)
   held_release = record {
     neighbours = λ i p e. neighbours i p e (cases_eq i item);
     within = λ p most e. within p most e (cases_lt item (length given));
@@ -71,8 +71,8 @@ module _ (capacities : List (Option ℕ)) (rows : List (List ℕ)) (given : List
           let b = held.within place most is in omega (arith, a, b)
 
 -- so its row isn't closed
-pub row_open : (s : Scene) (given : List (Option ℕ)) (seen : List Bool) (place : ℕ)
-    → s.given ≡ set given s.item None → IsHeld s.capacities s.rows given
+pub row_open : (s : Instance) (given : List (Option ℕ)) (seen : List Bool) (place : ℕ)
+    → s.given ≡ set given s.item None → IsPartialMatching s.capacities s.rows given
     → given_at given s.item ≡ Some place → IsClosedRow s seen → ⊥
 row_open s given seen place is held e closed =
     let near = held.neighbours s.item place e in
@@ -103,7 +103,7 @@ rows_inside left capacities edges rows ends have item place c =
     (item, place) ends ((have item place).0 c) in both.1
 
 -- every item is given a place, where each was before the settled one lost its own
-pub given_all : (s : Scene) (given new : List (Option ℕ)) → Settles s new → (k : ℕ)
+pub given_all : (s : Instance) (given new : List (Option ℕ)) → Settles s new → (k : ℕ)
     → ((k : ℕ) → (k ≡ s.item → ⊥) → given_at s.given k ≡ given_at given k) → IsGiven given k
     → IsGiven new k
 given_all s given new h k stood g = either (cases_eq k s.item) (cases_lt k s.item)

@@ -6,7 +6,7 @@ use Rattle.std.proofs.lemmas.List.{get_or_read}
 use Rattle.hall_match.specs.Holding.{given_at}
 use Rattle.hall_match.specs.Rows.{row_at}
 use Rattle.hall_match.specs.Chains.{IsLastUser, AreChains}
-use Rattle.hall_match.specs.Search.{Scene, IsSeen, IsRowSeen, IsShutFrom}
+use Rattle.hall_match.specs.Search.{Instance, IsSeen, IsRowSeen, IsShutFrom}
 use Rattle.hall_match.proofs.HoldingLemmas.{given_inside}
 
 -- how far the walk has still to go at most
@@ -15,11 +15,11 @@ steps_left None = 0
 steps_left (Some item) = item + 1
 
 -- the users from a number on are done, and the next one is the last before it
-abbrev pub WalkedTo : Scene → List Bool → ℕ → Option ℕ → Type 0
+abbrev pub WalkedTo : Instance → List Bool → ℕ → Option ℕ → Type 0
 WalkedTo s seen place next = (high : ℕ) × IsLastUser s.given place (s.item + 1) high next ×
     IsShutFrom s seen place high
 
-pub walk_starts : (s : Scene) (seen : List Bool) (place : ℕ) (next : Option ℕ)
+pub walk_starts : (s : Instance) (seen : List Bool) (place : ℕ) (next : Option ℕ)
     → IsLastUser s.given place (s.item + 1) (length s.given) next → WalkedTo s seen place next
 walk_starts s seen place next h = (
   length s.given,
@@ -28,7 +28,7 @@ walk_starts s seen place next h = (
       (let r = given_inside s.given user place e in omega (arith, r, l)),
 )
 
-pub walk_steps : (s : Scene) (old new : List Bool) (place item : ℕ) (user next : Option ℕ)
+pub walk_steps : (s : Instance) (old new : List Bool) (place item : ℕ) (user next : Option ℕ)
     → ((p : ℕ) → IsSeen old p → IsSeen new p) → user ≡ Some item → WalkedTo s old place user
     → IsRowSeen new (row_at s.rows item)
     → IsLastUser s.given place (s.item + 1) item next → WalkedTo s new place next
@@ -45,7 +45,7 @@ walk_steps s old new place item user next up is walked row last =
     either user l e (inr n) (inl below) = absurd (w.1.3 user (omega (arith, n, l)) below e)
     either user l e (inr n) (inr above) = λ p c. up p (w.2 user above e p c)
 
-pub walk_ends : (s : Scene) (seen : List Bool) (place : ℕ) (next : Option ℕ) → next ≡ None
+pub walk_ends : (s : Instance) (seen : List Bool) (place : ℕ) (next : Option ℕ) → next ≡ None
     → WalkedTo s seen place next → IsShutFrom s seen place (s.item + 1)
 walk_ends s seen place next is walked user l e = either (cases_lt user w.0)
   where
@@ -57,7 +57,7 @@ walk_ends s seen place next is walked user l e = either (cases_lt user w.0)
     either (inr above) = w.2 user above e
 
 -- the chain goes down
-pub walk_falls : (s : Scene) (place item : ℕ) (user next : Option ℕ) → user ≡ Some item
+pub walk_falls : (s : Instance) (place item : ℕ) (user next : Option ℕ) → user ≡ Some item
     → IsLastUser s.given place (s.item + 1) item next → steps_left next < steps_left user
 walk_falls s place item user next is last = subst (λ (o : Option ℕ). steps_left next < steps_left o)
     (sym is) (falls next last)
@@ -68,7 +68,7 @@ walk_falls s place item user next is last = subst (λ (o : Option ℕ). steps_le
     falls (Some other) last = let l = last.1 in omega (arith, l)
 
 -- the user that the walk has come to
-pub walk_at : (s : Scene) (seen : List Bool) (place item : ℕ) (user : Option ℕ) → user ≡ Some item
+pub walk_at : (s : Instance) (seen : List Bool) (place item : ℕ) (user : Option ℕ) → user ≡ Some item
     → WalkedTo s seen place user → (s.item < item) × (given_at s.given item ≡ Some place)
 walk_at s seen place item user is walked = let l = w.1.0 in (omega (arith, l), w.1.2)
   where
@@ -76,7 +76,7 @@ walk_at s seen place item user is walked = let l = w.1.0 in (omega (arith, l), w
     w = subst (λ (o : Option ℕ). WalkedTo s seen place o) is walked
 
 -- the link of the user that the walk has come to
-pub walk_on : (s : Scene) (seen : List Bool) (place item : ℕ) (user read : Option ℕ)
+pub walk_on : (s : Instance) (seen : List Bool) (place item : ℕ) (user read : Option ℕ)
     (ends links : List (Option ℕ)) → AreChains s.given (s.item + 1) (length s.given) ends links
     → length links ≡ length s.given → user ≡ Some item
     → WalkedTo s seen place user → read ≡ get_or links item read → IsLastUser s.given place

@@ -1,4 +1,4 @@
--- What items are given so far: a place, or none.
+-- A partial matching: what each item is given so far, a place or none.
 use Rattle.std.specs.Prelude.{ℕ, ◌≡◌, ◌==◌, ◌≤◌, Bool, true, false, nat_lt, List, Option, Some, None, slice_index_or, count_by, Contains}
 use Rattle.hall_match.specs.Matchings.{capacity_at}
 use Rattle.hall_match.specs.Rows.{row_at}
@@ -25,8 +25,8 @@ has_more (Some most) used = nat_lt used most
 abbrev pub has_room : List (Option ℕ) → List (Option ℕ) → ℕ → Bool
 has_room capacities given place = has_more (capacity_at capacities place) (holders place given)
 
--- items are given neighbours, and no limited place more often than its capacity
-pub record IsHeld (capacities : List (Option ℕ)) (rows : List (List ℕ))
+-- a partial matching: items are given neighbours, and no limited place more often than its capacity
+pub record IsPartialMatching (capacities : List (Option ℕ)) (rows : List (List ℕ))
     (given : List (Option ℕ)) : Type 0 where
   pub neighbours : (item place : ℕ) → given_at given item ≡ Some place
       → Contains (row_at rows item) place

@@ -43,7 +43,8 @@ IsNeighbour edges items place = (item : ℕ) × Contains items item × Contains 
 abbrev pub capacity_of : List (Option ℕ) → List ℕ → ℕ
 capacity_of capacities places = sum_by (λ place. unwrap_or (capacity_at capacities place) 0) places
 
--- rising items that are more than their neighbours' capacities together, none of them unlimited
+-- a deficient set: rising items that are more than their neighbours' capacities together, none of them
+-- unlimited
 pub record IsDeficient (left : ℕ) (capacities : List (Option ℕ)) (edges : List (ℕ × ℕ))
     (items : List ℕ) : Type 0 where
   pub rising : IsStrictlyIncreasing items

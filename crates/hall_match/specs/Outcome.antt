@@ -8,7 +8,7 @@ abbrev pub IfMatched : Matching → (List ℕ → Type 0) → Type 0
 IfMatched (Matched list) P = P list.items
 IfMatched (Deficient items) P = Unit {0}
 
--- what holds of the items, where they have too few neighbours
+-- what holds of the items, where they are a deficient set
 abbrev pub IfDeficient : Matching → (List ℕ → Type 0) → Type 0
 IfDeficient (Matched list) P = Unit {0}
 IfDeficient (Deficient items) P = P items.items

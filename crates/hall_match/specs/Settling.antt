@@ -1,17 +1,17 @@
 -- Items that are given, one after another, the least place that they can have.
 use Rattle.std.specs.Prelude.{ℕ, ◌≡◌, ◌<◌, ◌⊎◌, Bool, List, length, Option, Some, slice_index, Contains}
-use Rattle.hall_match.specs.Holding.{given_at, IsHeld}
+use Rattle.hall_match.specs.Holding.{given_at, IsPartialMatching}
 use Rattle.hall_match.specs.Rows.{row_at}
-use Rattle.hall_match.specs.Search.{Scene, IsSeen, IsClosed}
+use Rattle.hall_match.specs.Search.{Instance, IsSeen, IsClosed}
 
 -- the item is given a place
 abbrev pub IsGiven : List (Option ℕ) → ℕ → Type 0
 IsGiven given item = (place : ℕ) × (given_at given item ≡ Some place)
 
 -- the item is given a place, with the lesser ones of its row closed; the other items still have places
-pub record Settles (s : Scene) (new : List (Option ℕ)) : Type 0 where
+pub record Settles (s : Instance) (new : List (Option ℕ)) : Type 0 where
   pub whole : length new ≡ length s.given
-  pub held : IsHeld s.capacities s.rows new
+  pub held : IsPartialMatching s.capacities s.rows new
   pub place : ℕ
   pub here : given_at new s.item ≡ Some place
   pub before : (item : ℕ) → item < s.item → given_at new item ≡ given_at s.given item

@@ -1,4 +1,4 @@
-//! The items that stand against every matching.
+//! The deficient set that a failed search leaves.
 
 ghost use Rattle.std.specs.Prelude.{ℕ, ◌≡◌, ◌<◌, ◌^◌, length, Some, None, IfOk};
 ghost use Rattle.hall_match.specs.Holding.{given_at};

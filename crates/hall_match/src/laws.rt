@@ -1,10 +1,10 @@
-//! What a deficient list and a least matching say.
+//! What a deficient set and a least matching say.
 
 ghost use Rattle.std.specs.Prelude.{ℕ, ◌≡◌, List, Option};
 ghost use Rattle.hall_match.specs.Matchings.{IsMatching, IsLeast, IsDeficient};
 
-/// Items that are more than their neighbours' capacities together can't all be given places: the
-/// easy half of Hall's theorem, with capacities.
+/// The items of a deficient set can't all be given places: the easy half of Hall's theorem, with
+/// capacities.
 pub fn deficient_law()
     ensures { (left : ℕ) (capacities : List (Option ℕ)) (edges : List (ℕ × ℕ)) (items list : List ℕ) →
         IsDeficient left capacities edges items → ¬ IsMatching left capacities edges list }

@@ -1,10 +1,10 @@
 //! Matching with capacities: the least full matching, or items that break Hall's condition.
 #![tactic(auto)]
 
-mod allotment;
 mod deficiency;
 mod laws;
 mod outcome;
+mod partial_matching;
 mod rows;
 mod search;
 mod settling;

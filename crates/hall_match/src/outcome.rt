@@ -2,13 +2,13 @@
 
 ghost use Rattle.std.specs.Prelude.{ℕ, ◌≡◌, ◌<◌, length, List, Some, None, slice_index, MatchOption, IfOk, OnOk};
 ghost use Rattle.hall_match.specs.Matchings.{AreEdges, IsMatching, IsLeast, IsDeficient};
-ghost use Rattle.hall_match.specs.Holding.{given_at, IsHeld};
+ghost use Rattle.hall_match.specs.Holding.{given_at, IsPartialMatching};
 ghost use Rattle.hall_match.specs.Rows.{lists, HaveEdges, AreInside, AreRising};
 ghost use Rattle.hall_match.specs.Settling.{IsGiven, IsUpTo};
 ghost use Rattle.hall_match.specs.Outcome.{IfMatched, IfDeficient};
 
-use crate::allotment::Allotment;
 use crate::deficiency::blocked_items;
+use crate::partial_matching::PartialMatching;
 use crate::rows::rows_of;
 use crate::settling::settle;
 use std::alloc::{AllocError, Global};
@@ -18,7 +18,7 @@ use std::alloc::{AllocError, Global};
 pub enum Matching {
     /// The place of each item: the least such list.
     Matched(Vec<u32>),
-    /// Items, rising, whose neighbours' capacities together are fewer than they are.
+    /// A deficient set, as a rising list: items that are more than all their neighbours have room for.
     Deficient(Vec<u32>),
 }
 
@@ -27,7 +27,7 @@ fn settle_all(
     alloc: Global,
     capacities: &[Option<u32>],
     rows: &[Vec<u32>],
-    held: &mut Allotment,
+    held: &mut PartialMatching,
     left: u32,
 ) -> Result<Option<Vec<u32>>, AllocError>
     requires left { length rows.now ≡ left }
@@ -36,10 +36,10 @@ fn settle_all(
     requires inside { AreInside (lists rows.now) (length capacities.now) }
     requires rising { AreRising (lists rows.now) }
     requires none { (item : ℕ) → given_at held.old.given.items item ≡ None }
-    requires held { IsHeld capacities.now (lists rows.now) held.old.given.items }
+    requires held { IsPartialMatching capacities.now (lists rows.now) held.old.given.items }
     ensures whole { OnOk result (length held.new.given.items ≡ left) }
     ensures places { OnOk result (length held.new.used.items ≡ length capacities.now) }
-    ensures held { OnOk result (IsHeld capacities.now (lists rows.now) held.new.given.items) }
+    ensures held { OnOk result (IsPartialMatching capacities.now (lists rows.now) held.new.given.items) }
     ensures given { IfOk result (λ blocked. MatchOption blocked
         ((item : ℕ) → item < left → IsGiven held.new.given.items item) (λ _. Unit {0})) }
     ensures deficient { IfOk result (λ blocked. MatchOption blocked (Unit {0})
@@ -59,7 +59,7 @@ fn settle_least(
     alloc: Global,
     capacities: &[Option<u32>],
     rows: &[Vec<u32>],
-    held: &mut Allotment,
+    held: &mut PartialMatching,
     left: u32,
 ) -> Result<(), AllocError>
     requires left { length rows.now ≡ left }
@@ -67,10 +67,10 @@ fn settle_least(
     requires places { length held.old.used.items ≡ length capacities.now }
     requires inside { AreInside (lists rows.now) (length capacities.now) }
     requires rising { AreRising (lists rows.now) }
-    requires held { IsHeld capacities.now (lists rows.now) held.old.given.items }
+    requires held { IsPartialMatching capacities.now (lists rows.now) held.old.given.items }
     requires given { (item : ℕ) → item < left → IsGiven held.old.given.items item }
     ensures whole { OnOk result (length held.new.given.items ≡ left) }
-    ensures held { OnOk result (IsHeld capacities.now (lists rows.now) held.new.given.items) }
+    ensures held { OnOk result (IsPartialMatching capacities.now (lists rows.now) held.new.given.items) }
     ensures given { OnOk result ((item : ℕ) → item < left → IsGiven held.new.given.items item) }
     ensures least { OnOk result ((edges : List (ℕ × ℕ)) (other : List ℕ) →
         HaveEdges (lists rows.now) edges → IsMatching left capacities.now edges other →
@@ -118,7 +118,7 @@ pub fn match_all(
         IfDeficient answer (λ _. (list : List ℕ) → ¬ IsMatching left capacities.now edges.now list)) }
 {
     let rows = rows_of(alloc, left, edges)?;
-    let mut held = Allotment::new(alloc, left, capacities.len())?;
+    let mut held = PartialMatching::new(alloc, left, capacities.len())?;
     if let Some(items) = settle_all(alloc, capacities, &rows, &mut held, left)? {
         return Ok(Matching::Deficient(items));
     }

@@ -1,15 +1,16 @@
-//! The search for an augmenting path: a way to a place with room, by moves of later items.
+//! The search for an augmenting path: an alternating path to a place with room, whose moves are of
+//! later items.
 
 ghost use Rattle.std.specs.Prelude.{◌≡◌, ◌+◌, ◌<◌, true, false, MatchBool, length, slice_set, slice_index_or, ◌∷◌, ◌++◌, [], Contains, IfOk, OnOk};
 ghost use Rattle.hall_match.specs.Rows.{lists, row_at, AreInside, AreRising};
-ghost use Rattle.hall_match.specs.Search.{scene, IsRowSeen, IsClosed, IsSearch, IsFound, GoesOn, IsUserAt, IsReady, IsFoundFrom, IsClosedWith, IsOutcome};
+ghost use Rattle.hall_match.specs.Search.{instance, IsRowSeen, IsClosed, IsSearch, IsFound, GoesOn, IsUserAt, IsReady, IsFoundFrom, IsClosedWith, IsOutcome};
 
-use crate::allotment::Allotment;
+use crate::partial_matching::PartialMatching;
 use crate::rows::row_of;
 use crate::users::Users;
 use std::alloc::{AllocError, Global};
 
-/// A move that makes room: the item can go on from the place that was reached at `from`.
+/// A step of an alternating path: the item can move on from the place that was reached at `from`.
 #[derive(Clone, Copy)]
 pub struct Move {
     pub item: u32,
@@ -32,10 +33,11 @@ pub struct Search {
     pub reached: Vec<Reached>,
 }
 
-/// What a search has found: a way to a place with room, or the places that are closed.
+/// What a search has found: what was reached up to the end of an augmenting path, or the places from
+/// which none leads.
 #[derive(Drop)]
 pub enum Found {
-    Way(Vec<Reached>),
+    Path(Vec<Reached>),
     Closed(Vec<bool>),
 }
 
@@ -56,7 +58,7 @@ fn visit(search: &mut Search, place: u32, by: Option<Move>) -> Result<(), AllocE
 fn reach_row(
     capacities: &[Option<u32>],
     rows: &[Vec<u32>],
-    held: &Allotment,
+    held: &PartialMatching,
     search: &mut Search,
     by: Move,
 ) -> Result<bool, AllocError>
@@ -66,12 +68,12 @@ fn reach_row(
     requires places { length search.old.seen.items ≡ length capacities.now }
     requires used { length held.now.used.items ≡ length capacities.now }
     requires from { IsUserAt held.now.given.items search.old.reached.items by.item by.from }
-    requires search { let s = scene capacities.now rows.now held.now.given.items search.old.item in
+    requires search { let s = instance capacities.now rows.now held.now.given.items search.old.item in
         IsSearch s search.old.seen.items search.old.reached.items by.from }
     ensures item { search.new.item ≡ search.old.item }
     ensures goes_on { OnOk result (GoesOn search.old.seen.items search.new.seen.items
         search.old.reached.items search.new.reached.items) }
-    ensures outcome { let s = scene capacities.now rows.now held.now.given.items search.old.item in
+    ensures outcome { let s = instance capacities.now rows.now held.now.given.items search.old.item in
         IfOk result (λ found. MatchBool found
         (IsFound s search.new.reached.items)
         (IsSearch s search.new.seen.items search.new.reached.items by.from)) }
@@ -94,21 +96,21 @@ fn reach_row(
 fn reach_by_users(
     capacities: &[Option<u32>],
     rows: &[Vec<u32>],
-    held: &Allotment,
+    held: &PartialMatching,
     users: &Users,
     search: &mut Search,
     at: usize,
 ) -> Result<bool, AllocError>
-    requires ready { let s = scene capacities.now rows.now held.now.given.items search.old.item in
+    requires ready { let s = instance capacities.now rows.now held.now.given.items search.old.item in
         IsReady s held.now.used.items users.now.last.items users.now.before.items }
     requires places { length search.old.seen.items ≡ length capacities.now }
     requires at { at < length search.old.reached.items }
-    requires search { let s = scene capacities.now rows.now held.now.given.items search.old.item in
+    requires search { let s = instance capacities.now rows.now held.now.given.items search.old.item in
         IsSearch s search.old.seen.items search.old.reached.items at }
     ensures item { search.new.item ≡ search.old.item }
     ensures goes_on { OnOk result (GoesOn search.old.seen.items search.new.seen.items
         search.old.reached.items search.new.reached.items) }
-    ensures outcome { let s = scene capacities.now rows.now held.now.given.items search.old.item in
+    ensures outcome { let s = instance capacities.now rows.now held.now.given.items search.old.item in
         IfOk result (λ found. MatchBool found
         (IsFound s search.new.reached.items)
         (IsSearch s search.new.seen.items search.new.reached.items (at + 1))) }
@@ -129,21 +131,21 @@ fn reach_by_users(
 fn reach_from(
     capacities: &[Option<u32>],
     rows: &[Vec<u32>],
-    held: &Allotment,
+    held: &PartialMatching,
     users: &Users,
     search: &mut Search,
     place: u32,
 ) -> Result<bool, AllocError>
-    requires ready { let s = scene capacities.now rows.now held.now.given.items search.old.item in
+    requires ready { let s = instance capacities.now rows.now held.now.given.items search.old.item in
         IsReady s held.now.used.items users.now.last.items users.now.before.items }
     requires places { length search.old.seen.items ≡ length capacities.now }
     requires neighbour { Contains (row_at (lists rows.now) search.old.item) place }
     requires unseen { slice_index_or search.old.seen.items place false ≡ false }
-    requires closed { let s = scene capacities.now rows.now held.now.given.items search.old.item in
+    requires closed { let s = instance capacities.now rows.now held.now.given.items search.old.item in
         IsClosed s search.old.seen.items }
     ensures item { search.new.item ≡ search.old.item }
     ensures places { OnOk result (length search.new.seen.items ≡ length search.old.seen.items) }
-    ensures outcome { let s = scene capacities.now rows.now held.now.given.items search.old.item in
+    ensures outcome { let s = instance capacities.now rows.now held.now.given.items search.old.item in
         IfOk result (λ found. MatchBool found
         (IsFoundFrom s search.new.reached.items place)
         (IsClosedWith s search.old.seen.items search.new.seen.items place)) }
@@ -163,21 +165,21 @@ fn reach_from(
     Ok(false)
 }
 
-/// Tries the places of the item's row, the least first, for one with room or with a way to room.
+/// Tries the places of the item's row, the least first, for one where an augmenting path begins.
 /// Places from which none was found stay closed, so each edge is gone over at most once.
-pub fn find_way(
+pub fn find_path(
     alloc: Global,
     capacities: &[Option<u32>],
     rows: &[Vec<u32>],
-    held: &Allotment,
+    held: &PartialMatching,
     users: &Users,
     item: u32,
 ) -> Result<Found, AllocError>
     requires item { item < length rows.now }
     requires rising { AreRising (lists rows.now) }
-    requires ready { let s = scene capacities.now rows.now held.now.given.items item in
+    requires ready { let s = instance capacities.now rows.now held.now.given.items item in
         IsReady s held.now.used.items users.now.last.items users.now.before.items }
-    ensures { let s = scene capacities.now rows.now held.now.given.items item in
+    ensures { let s = instance capacities.now rows.now held.now.given.items item in
         IfOk result (IsOutcome s) }
 {
     let mut search = Search {
@@ -195,7 +197,7 @@ pub fn find_way(
                 seen: _,
                 reached,
             } = search;
-            return Ok(Found::Way(reached));
+            return Ok(Found::Path(reached));
         }
     }
     let Search {

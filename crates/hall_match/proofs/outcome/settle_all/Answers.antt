@@ -1,7 +1,7 @@
 use Rattle.std.proofs.Common.{ℕ, ◌≡◌, ◌-◌, List, Option, Vec, Bool, arith, ◌∙◌, subst}
 use Rattle.std.specs.declared.alloc.Global.{Global}
 use Rattle.std.proofs.lemmas.Option.{MatchOption-at_some, MatchOption-at_none}
-use Rattle.hall_match.specs.Search.{Scene, scene, IsClosedRow}
+use Rattle.hall_match.specs.Search.{Instance, instance, IsClosedRow}
 use Rattle.hall_match.specs.Settling.{Settles}
 use Rattle.hall_match.specs.Blocking.{AreBlocked}
 use Rattle.hall_match.proofs.DeficiencyLemmas.{blocked_deficient}
@@ -13,7 +13,7 @@ returns-in-Some-clause-deficient c = λ edges rows.
     let old = c.loop-item in
     let item : ℕ = old.item - 1 in
     let given = old.held.given.items in
-    let s : Scene = scene c.args.capacities.now c.args.rows.now given item in
+    let s : Instance = instance c.args.capacities.now c.args.rows.now given item in
     let seen = c.in-Some.seen in
     let closed = MatchOption-at_some (Settles s c.settle.new.held.given.items)
     (λ (v : Vec Bool Global). IsClosedRow s v.items) seen c.in-Some.is
@@ -35,7 +35,7 @@ pub loop-item-preserved : goal.loop-item-preserved
 loop-item-preserved c =
     let old = c.loop-item in
     let item : ℕ = old.item - 1 in
-    let s : Scene = scene c.args.capacities.now c.args.rows.now old.held.given.items item in
+    let s : Instance = instance c.args.capacities.now c.args.rows.now old.held.given.items item in
     let new = c.settle.new.held.given.items in
     let settled = MatchOption-at_none (Settles s new) (λ (v : Vec Bool Global). IsClosedRow s
     v.items) c.in_default.is c.in_ok-seen.ensures.outcome in

@@ -4,7 +4,7 @@ use Rattle.std.proofs.lemmas.List.{length-set}
 use Rattle.std.proofs.lemmas.Option.{MatchOption-at_none}
 use Rattle.hall_match.specs.Holding.{given_at}
 use Rattle.hall_match.specs.Rows.{lists}
-use Rattle.hall_match.specs.Search.{Scene, scene, IsClosedRow}
+use Rattle.hall_match.specs.Search.{Instance, instance, IsClosedRow}
 use Rattle.hall_match.specs.Settling.{Settles}
 use Rattle.hall_match.proofs.LeastLemmas.{up_to_next}
 use Rattle.hall_match.proofs.SettlingLemmas.{given_all, release_free, release_other, held_release, row_open, not_some, is_nothing}
@@ -19,7 +19,7 @@ pub prove-unreachable-requires : goal.prove-unreachable-requires
 prove-unreachable-requires c =
     let old = c.loop-item in
     let given = old.held.given.items in
-    let s : Scene = scene c.args.capacities.now c.args.rows.now c.release.new.self.given.items
+    let s : Instance = instance c.args.capacities.now c.args.rows.now c.release.new.self.given.items
     old.item in
     let had = old.invariant.given old.item c.loop-item-test.true in
     not_some c.in_ok-closed.closed (Settles s c.settle.new.held.given.items)
@@ -34,7 +34,7 @@ loop-item-preserved c =
     let now = c.release.new.self.given.items in
     let new = c.settle.new.held.given.items in
     let caps = c.args.capacities.now in
-    let s : Scene = scene caps c.args.rows.now now old.item in
+    let s : Instance = instance caps c.args.rows.now now old.item in
     let none' = is_nothing c.in_ok-closed.closed (c.if-prove.ensures) in
     let settled = MatchOption-at_none (Settles s new) (λ (v : Vec Bool Global). IsClosedRow s
     v.items) none' c.in_ok-closed.ensures.outcome in

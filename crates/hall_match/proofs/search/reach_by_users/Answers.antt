@@ -4,7 +4,7 @@ use Rattle.std.proofs.lemmas.List.{get_or_read}
 use Rattle.std.proofs.lemmas.Option.{slice_get_read}
 use Rattle.hall_match.specs.Rows.{row_at}
 use Rattle.hall_match.specs.Chains.{IsLastUser}
-use Rattle.hall_match.specs.Search.{Scene, scene, IsRowSeen, IsSearch, IsFound}
+use Rattle.hall_match.specs.Search.{Instance, instance, IsRowSeen, IsSearch, IsFound}
 use Rattle.hall_match.proofs.ChainLemmas.{none_from}
 use Rattle.hall_match.proofs.SearchLemmas.{seen_inside, goes_same, goes_further, search_next}
 use Rattle.hall_match.proofs.WalkLemmas.{walk_starts, walk_steps, walk_ends, walk_falls, walk_at, walk_on}
@@ -22,7 +22,7 @@ index-user-requires c =
 pub loop-user-init : goal.loop-user-init
 loop-user-init c =
     let start = c.args.search.now in
-    let s : Scene = scene c.args.capacities.now c.args.rows.now c.args.held.now.given.items
+    let s : Instance = instance c.args.capacities.now c.args.rows.now c.args.held.now.given.items
     start.item in
     let place : ℕ = c.index.result.now.place in
     let here = slice_get_read start.reached.items (length start.reached.items) c.args.at
@@ -45,7 +45,7 @@ loop-user-init c =
 pub reach_row-requires-clause-from : goal.reach_row-requires-clause-from
 reach_row-requires-clause-from c =
     let start = c.args.search.now in
-    let s : Scene = scene c.args.capacities.now c.args.rows.now c.args.held.now.given.items
+    let s : Instance = instance c.args.capacities.now c.args.rows.now c.args.held.now.given.items
     start.item in
     let here = slice_get_read start.reached.items (length start.reached.items) c.args.at
     c.index.result.now refl c.requires.at c.index.ensures in
@@ -59,7 +59,7 @@ reach_row-requires-clause-from c =
 pub loop-user-smaller : goal.loop-user-smaller
 loop-user-smaller c =
     let start = c.args.search.now in
-    let s : Scene = scene c.args.capacities.now c.args.rows.now c.args.held.now.given.items
+    let s : Instance = instance c.args.capacities.now c.args.rows.now c.args.held.now.given.items
     start.item in
     let old = c.loop-user in
     let ready = c.requires.ready in
@@ -73,7 +73,7 @@ loop-user-smaller c =
 pub loop-user-preserved : goal.loop-user-preserved
 loop-user-preserved c =
     let start = c.args.search.now in
-    let s : Scene = scene c.args.capacities.now c.args.rows.now c.args.held.now.given.items
+    let s : Instance = instance c.args.capacities.now c.args.rows.now c.args.held.now.given.items
     start.item in
     let old = c.loop-user in
     let new = c.reach_row.new.search in
@@ -86,9 +86,9 @@ loop-user-preserved c =
     c.in-Some.is old.invariant.walk
     c.index-user-in-Some.ensures in
     let same = old.invariant.item in
-    let search = MatchBool-at_false (IsFound (scene c.args.capacities.now c.args.rows.now
+    let search = MatchBool-at_false (IsFound (instance c.args.capacities.now c.args.rows.now
     c.args.held.now.given.items old.search.item) new.reached.items)
-    (IsSearch (scene c.args.capacities.now c.args.rows.now c.args.held.now.given.items
+    (IsSearch (instance c.args.capacities.now c.args.rows.now c.args.held.now.given.items
     old.search.item) new.seen.items new.reached.items c.args.at) c.if-branch.false
     row.outcome in
     let seen = MatchBool-at_false (Unit {0}) (IsRowSeen new.seen.items (row_at s.rows item))
@@ -107,7 +107,7 @@ loop-user-preserved c =
 pub returns-clause-outcome : goal.returns-clause-outcome
 returns-clause-outcome c =
     let start = c.args.search.now in
-    let s : Scene = scene c.args.capacities.now c.args.rows.now c.args.held.now.given.items
+    let s : Instance = instance c.args.capacities.now c.args.rows.now c.args.held.now.given.items
     start.item in
     let last = c.loop-user in
     let here = slice_get_read start.reached.items (length start.reached.items) c.args.at

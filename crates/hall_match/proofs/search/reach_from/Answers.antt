@@ -2,7 +2,7 @@ use Rattle.std.proofs.Common.{ℕ, ◌≡◌, ◌+◌, ◌<◌, length, Option, 
 use Rattle.std.specs.Prelude.{slice_get}
 use Rattle.std.proofs.lemmas.Bool.{MatchBool-at_true}
 use Rattle.hall_match.specs.declared.search.Reached.{Reached}
-use Rattle.hall_match.specs.Search.{Scene, scene, IsSeen, IsSearch, IsFound}
+use Rattle.hall_match.specs.Search.{Instance, instance, IsSeen, IsSearch, IsFound}
 use Rattle.hall_match.proofs.SearchLemmas.{goes_same, found_begins, search_begins, search_ends, seen_here, seen_still}
 use Rattle.hall_match.proofs.search.reach_from.Goals as goal
 
@@ -22,7 +22,7 @@ has_room-requires-clause-inside c =
 
 pub returns-then-has_room-clause-outcome : goal.returns-then-has_room-clause-outcome
 returns-then-has_room-clause-outcome c =
-    let s : Scene = scene c.args.capacities.now c.args.rows.now c.args.held.now.given.items
+    let s : Instance = instance c.args.capacities.now c.args.rows.now c.args.held.now.given.items
     c.args.search.now.item in
     let room = sym c.has_room.ensures ∙ c.if-has_room.true in
     rw (c.in_ok-visit.ensures.reached, c.clear.ensures.items) (record {
@@ -32,7 +32,7 @@ returns-then-has_room-clause-outcome c =
 
 pub loop-at-init : goal.loop-at-init
 loop-at-init c =
-    let s : Scene = scene c.args.capacities.now c.args.rows.now c.args.held.now.given.items
+    let s : Instance = instance c.args.capacities.now c.args.rows.now c.args.held.now.given.items
     c.args.search.now.item in
     let full = sym c.has_room.ensures ∙ c.if-has_room.false in
     let new = c.visit.new.search in
@@ -55,7 +55,7 @@ returns-then-branch-clause-outcome c =
     let old = c.loop-at in
     let new = c.reach_by_users.new.search in
     let same = old.invariant.item ∙ c.in_ok-visit.ensures.item in
-    let before : Scene = scene c.args.capacities.now c.args.rows.now c.args.held.now.given.items
+    let before : Instance = instance c.args.capacities.now c.args.rows.now c.args.held.now.given.items
     old.search.item in
     let found = MatchBool-at_true (IsFound before new.reached.items)
     (IsSearch before new.seen.items new.reached.items (old.at + 1)) c.if-branch.true
@@ -80,7 +80,7 @@ returns-clause-outcome c =
     let marks = c.in_ok-visit.ensures.seen in
     let inside = c.requires.ready.inside c.args.search.now.item place c.requires.neighbour in
     let within : place < length seen = omega (arith, inside, c.requires.places) in
-    let before : Scene = scene c.args.capacities.now c.args.rows.now c.args.held.now.given.items
+    let before : Instance = instance c.args.capacities.now c.args.rows.now c.args.held.now.given.items
     c.visit.new.search.item in
     let closed = search_ends before now last.search.reached.items last.at
     (omega (arith, c.loop-at-test.false, c.len.ensures, last.search.reached.ok.0))

@@ -1,6 +1,6 @@
 use Rattle.std.proofs.Common.{ℕ, ◌≡◌, ◌<◌, length, get_or, List, arith, sym, ◌∙◌}
 use Rattle.hall_match.specs.Rows.{lists, row_at}
-use Rattle.hall_match.specs.Search.{Scene, scene}
+use Rattle.hall_match.specs.Search.{Instance, instance}
 use Rattle.hall_match.proofs.SearchLemmas.{near, row_seen, row_next, goes_further, next_seen, read_true}
 use Rattle.hall_match.proofs.search.reach_row.Goals as goal
 
@@ -46,7 +46,7 @@ returns-then-has_room c =
     let old = c.loop-place in
     let start = c.args.search.now in
     let new = c.visit.new.search in
-    let s : Scene = scene c.args.capacities.now c.args.rows.now c.args.held.now.given.items
+    let s : Instance = instance c.args.capacities.now c.args.rows.now c.args.held.now.given.items
     start.item in
     let long : length old.search.seen.items ≡ length s.capacities =
     old.invariant.goes_on.places ∙ c.requires.places in
@@ -90,7 +90,7 @@ loop-place-preserved c =
     let start = c.args.search.now in
     let new = c.visit.new.search in
     let items : List ℕ = c.row_of-place-items.result.now in
-    let s : Scene = scene c.args.capacities.now c.args.rows.now c.args.held.now.given.items
+    let s : Instance = instance c.args.capacities.now c.args.rows.now c.args.held.now.given.items
     start.item in
     let long : length old.search.seen.items ≡ length s.capacities =
     old.invariant.goes_on.places ∙ c.requires.places in

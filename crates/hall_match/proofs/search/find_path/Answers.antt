@@ -1,13 +1,13 @@
 use Rattle.std.proofs.Common.{ℕ, get_or, List, arith}
 use Rattle.std.proofs.lemmas.Bool.{MatchBool-at_true}
 use Rattle.hall_match.specs.Rows.{row_at}
-use Rattle.hall_match.specs.Search.{Scene, scene, IsFoundFrom, IsClosedWith}
-use Rattle.hall_match.proofs.SearchLemmas.{near, row_seen, next_seen, read_true, least_way}
-use Rattle.hall_match.proofs.search.find_way.Goals as goal
+use Rattle.hall_match.specs.Search.{Instance, instance, IsFoundFrom, IsClosedWith}
+use Rattle.hall_match.proofs.SearchLemmas.{near, row_seen, next_seen, read_true, least_path}
+use Rattle.hall_match.proofs.search.find_path.Goals as goal
 
 pub index-requires : goal.index-requires
 index-requires c =
-    let s : Scene = scene c.args.capacities.now c.args.rows.now c.args.held.now.given.items
+    let s : Instance = instance c.args.capacities.now c.args.rows.now c.args.held.now.given.items
     c.args.item in
     let items : List ℕ = c.row_of-place-items.result.now in
     let contained = near (row_at s.rows s.item) items c.loop-place.place-index
@@ -18,25 +18,25 @@ index-requires c =
 
 pub returns-then-branch : goal.returns-then-branch
 returns-then-branch c =
-    let s : Scene = scene c.args.capacities.now c.args.rows.now c.args.held.now.given.items
+    let s : Instance = instance c.args.capacities.now c.args.rows.now c.args.held.now.given.items
     c.args.item in
     let old = c.loop-place in
     let new = c.reach_from.new.search in
     let items : List ℕ = c.row_of-place-items.result.now in
     let place : ℕ = get_or items old.place-index 0 in
     let same = old.invariant.item in
-    let before : Scene = scene c.args.capacities.now c.args.rows.now c.args.held.now.given.items
+    let before : Instance = instance c.args.capacities.now c.args.rows.now c.args.held.now.given.items
     old.search.item in
     let found = MatchBool-at_true (IsFoundFrom before new.reached.items place)
     (IsClosedWith before old.search.seen.items new.seen.items place) c.if-branch.true
     c.in_ok-reach_from.ensures.outcome in
-    least_way s old.search.seen.items new.reached.items items old.place-index
+    least_path s old.search.seen.items new.reached.items items old.place-index
     c.row_of-place-items.ensures (c.requires.rising s.item) c.loop-place-test.true
     old.invariant.closed old.invariant.seen (rw same at found)
 
 pub loop-place-preserved-then-index : goal.loop-place-preserved-then-index
 loop-place-preserved-then-index c =
-    let s : Scene = scene c.args.capacities.now c.args.rows.now c.args.held.now.given.items
+    let s : Instance = instance c.args.capacities.now c.args.rows.now c.args.held.now.given.items
     c.args.item in
     let old = c.loop-place in
     let seen = old.search.seen.items in
@@ -56,7 +56,7 @@ loop-place-preserved-then-index c =
 
 pub returns : goal.returns
 returns c =
-    let s : Scene = scene c.args.capacities.now c.args.rows.now c.args.held.now.given.items
+    let s : Instance = instance c.args.capacities.now c.args.rows.now c.args.held.now.given.items
     c.args.item in
     let last = c.loop-place in
     record {

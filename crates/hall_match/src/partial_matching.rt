@@ -1,4 +1,4 @@
-//! Which place each item is given so far.
+//! A partial matching: the place that each item is given so far.
 
 ghost use Rattle.std.specs.Prelude.{ℕ, ◌≡◌, ◌<◌, ◌^◌, length, slice_index, slice_set, Some, None, IfOk};
 ghost use Rattle.std.specs.Prelude.{replicate};
@@ -8,7 +8,7 @@ use std::alloc::{AllocError, Global};
 
 /// The place that each item is given, and how many items each place is given to.
 #[derive(Drop)]
-pub struct Allotment {
+pub struct PartialMatching {
     pub given: Vec<Option<u32>>,
     pub used: Vec<u32>,
     pub ghost few: { length given.items < 2 ^ 32 },
@@ -18,13 +18,13 @@ pub struct Allotment {
         slice_index used.items place ≡ holders place given.items },
 }
 
-impl Allotment {
+impl PartialMatching {
     /// No item is given a place yet.
     pub fn new(alloc: Global, left: u32, places: usize) -> Result<Self, AllocError>
         ensures given { IfOk result (λ held. held.given.items ≡ replicate left None) }
         ensures places { IfOk result (λ held. length held.used.items ≡ places) }
     {
-        Ok(Allotment {
+        Ok(PartialMatching {
             given: vec![in alloc; None; left as usize]?,
             used: vec![in alloc; 0; places]?,
         })

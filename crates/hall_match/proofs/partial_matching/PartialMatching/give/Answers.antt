@@ -1,7 +1,7 @@
 use Rattle.std.proofs.Common.{ℕ, ◌+◌, length, Some, arith}
 use Rattle.std.proofs.lemmas.List.{length-set, get_or_read}
 use Rattle.hall_match.proofs.HoldingLemmas.{holders-below, counted_give, inside_give}
-use Rattle.hall_match.proofs.allotment.Allotment.give.Goals as goal
+use Rattle.hall_match.proofs.partial_matching.PartialMatching.give.Goals as goal
 
 pub overflow_add-index_mut : goal.overflow_add-index_mut
 overflow_add-index_mut c =

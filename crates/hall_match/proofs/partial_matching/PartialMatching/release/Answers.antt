@@ -2,7 +2,7 @@ use Rattle.std.proofs.Common.{ℕ, ◌≡◌, ◌-◌, Option, Some, None, lengt
 use Rattle.std.proofs.lemmas.List.{length-set, get_or_read}
 use Rattle.hall_match.specs.Holding.{given_at}
 use Rattle.hall_match.proofs.HoldingLemmas.{holders-release, counted_release, inside_release}
-use Rattle.hall_match.proofs.allotment.Allotment.release.Goals as goal
+use Rattle.hall_match.proofs.partial_matching.PartialMatching.release.Goals as goal
 
 pub index_mut-requires-in-Some : goal.index_mut-requires-in-Some
 index_mut-requires-in-Some c =
