@@ -15,7 +15,7 @@ abbrev pub RiseBySet : List Profile → Type 0
 RiseBySet [] = Unit {0}
 RiseBySet (profile ∷ profiles) = Each (λ later. set_before profile.set later.set ≡ true) profiles × RiseBySet profiles
 
--- one profile for each different set, in the order of sets, with the number of members that have it
+-- the different sets of the members in their order, each as a profile that counts who has it
 pub record IsGroup (members : List (List ℕ)) (profiles : List Profile) : Type 0 where
   pub rise : RiseBySet profiles
   pub counts : Each (λ profile. (profile.most ≡ Some (holders profile.set members)) × (1 ≤ holders profile.set members)) profiles

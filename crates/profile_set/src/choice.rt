@@ -33,8 +33,8 @@ fn has_left(profiles: &[Profile], number: u32, used: usize) -> bool
     }
 }
 
-/// The first place of the choice whose number is no profile, or whose profile the places before
-/// it have used as often as its count. None where a population can be drawn by the choice.
+/// The first place of the choice where no profile stands, or one that was used as often as its count
+/// before. None where a population can be drawn by the choice.
 pub fn undrawn(profiles: &[Profile], choice: &[u32]) -> Option<u32>
     requires { length choice.now < 2 ^ 32 }
     ensures within { IfSome result (λ place. place < length choice.now) }

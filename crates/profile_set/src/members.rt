@@ -1,6 +1,6 @@
 //! Reading lists of members.
 
-ghost use Rattle.std.specs.Prelude.{ℕ, ◌≡◌, ◌<◌, ◌+◌, ◌^◌, ◌↔◌, [], ◌∷◌, List, length, Some, None, Ok, IsTrue, IfOk, IfErr, IfSome, IfNone};
+ghost use Rattle.std.specs.Prelude.{ℕ, ◌≡◌, ◌<◌, ◌≤◌, ◌+◌, ◌^◌, ◌↔◌, [], ◌∷◌, List, length, Some, None, Ok, IsTrue, IfOk, IfErr, IfSome, IfNone};
 ghost use Rattle.csv.specs.Reading.{error_kind, stops_reader};
 ghost use Rattle.csv.specs.Records.{AllText, fields_of};
 ghost use Rattle.role_order.specs.Names.{place_of};
@@ -133,6 +133,13 @@ fn records_of(alloc: Global, bytes: &[u8]) -> StringRecordsIntoIter<&[u8]>
         .into_records()
 }
 
+/// Whether records in so many bytes may be more than a number of 32 bits can count.
+fn is_beyond(count: usize) -> bool
+    ensures { IsTrue result ↔ (2 ^ 32 ≤ count) }
+{
+    u32::try_from(count).is_err()
+}
+
 fn read(alloc: Global, order: &Order, bytes: &[u8]) -> Result<Vec<MemberRow>, MembersError>
     requires { length bytes.now < 2 ^ 32 }
     ensures rows { IfOk result (λ rows. IsMembers order.now.names bytes.now rows.items) }
@@ -164,7 +171,6 @@ pub fn read_members(
     order: &Order,
     bytes: &[u8],
 ) -> Result<Vec<MemberRow>, MembersError>
-    requires { length bytes.now < 2 ^ 32 }
     // What is read is what the text stands for.
     ensures rows { IfOk result (λ rows. IsMembers order.now.names bytes.now rows.items) }
     // A text that stands for rows is read as those rows.
@@ -176,5 +182,9 @@ pub fn read_members(
     // A text stands for one list of rows at most.
     ensures one { (left right : List MemberRow) → IsMembers order.now.names bytes.now left → IsMembers order.now.names bytes.now right → left ≡ right }
 {
+    // Records are counted in 32 bits; where bytes may have more, this counts as want of memory.
+    if is_beyond(bytes.len()) {
+        return Err(MembersError::Memory);
+    }
     read(alloc, order, bytes)
 }

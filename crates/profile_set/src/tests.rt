@@ -2,7 +2,8 @@
 use crate::{MemberRow, MembersError, Name, On, group, read_members, undrawn};
 use arbac_policy::Profile;
 use role_order::{MOST_ROLES, Order, RoleSet};
-use std::alloc::Global;
+use std::alloc::{AllocError, Global};
+use std::cmp::Ordering;
 use std::process::Abort;
 use std::test::Fail;
 
@@ -21,6 +22,16 @@ const TEXTS: [(&str, bool); 7] = [
     (LETTERS_65, false),
 ];
 
+/// Pairs of names, and their order: that of their bytes.
+const PAIRS: [(&str, &str, Ordering); 6] = [
+    ("bob", "bob", Ordering::Equal),
+    ("bob", "bobby", Ordering::Less),
+    ("b", "ann", Ordering::Greater),
+    ("Z", "a", Ordering::Less),
+    ("-", ".", Ordering::Less),
+    ("_", "9", Ordering::Greater),
+];
+
 /// Choices of profiles with the counts 2, 0 and none, and the first place that isn't drawn.
 const CHOICES: [(&[u32], Option<u32>); 7] = [
     (&[], None),
@@ -32,6 +43,14 @@ const CHOICES: [(&[u32], Option<u32>); 7] = [
     (&[2, 4_294_967_295], Some(1)),
 ];
 
+/// The order of two texts as names; none where one of them is no name.
+fn order_of_names(alloc: Global, left: &str, right: &str) -> Result<Option<Ordering>, AllocError> {
+    match (Name::new(alloc, left)?, Name::new(alloc, right)?) {
+        (Some(left), Some(right)) => Ok(Some(left.cmp(&right))),
+        _ => Ok(None),
+    }
+}
+
 #[test]
 fn names_and_choices(rt: HostRuntime) -> Result<(), Fail> {
     let alloc = rt.alloc();
@@ -39,8 +58,17 @@ fn names_and_choices(rt: HostRuntime) -> Result<(), Fail> {
         let name = Name::new(alloc, text)?;
         assert_eq!(rt; name.is_some(), is_name, "{text}");
         if let Some(name) = name {
-            assert_eq!(rt; name.copy(alloc)?.as_str(), text);
+            let copy = name.copy(alloc)?;
+            assert_eq!(rt; copy.as_str(), text);
+            assert!(rt; copy == name, "{text}");
         }
+    }
+    for (left, right, order) in PAIRS {
+        assert_eq!(rt;
+            order_of_names(alloc, left, right)?,
+            Some(order),
+            "{left} {right}"
+        );
     }
     let set = RoleSet::empty();
     let profiles = [Some(2), Some(0), None].map(|most| Profile { set, most });
@@ -257,22 +285,12 @@ fn order_of(rt: &impl Abort, alloc: Global) -> Result<Order, Fail> {
     Ok(Order::new(alloc, names, Vec::new(alloc))?)
 }
 
-fn rows_of(
-    rt: &impl Abort,
-    alloc: Global,
-    order: &Order,
-    text: &[u8],
-) -> Result<Vec<MemberRow>, MembersError> {
-    assert!(rt; text.len() < 1_000_000_000);
-    read_members(alloc, order, text)
-}
-
 #[test]
 fn lists_of_members(rt: HostRuntime) -> Result<(), Fail> {
     let alloc = rt.alloc();
     let order = order_of(&rt, alloc)?;
     for (text, wanted) in LISTS {
-        let rows = rows_of(&rt, alloc, &order, text)?;
+        let rows = read_members(alloc, &order, text)?;
         assert_eq!(rt; rows.len(), wanted.len(), "{text:?}");
         for (row, (on, name, role)) in rows.iter().zip(wanted) {
             assert_eq!(rt; row.on, *on, "{text:?}");
@@ -281,7 +299,7 @@ fn lists_of_members(rt: HostRuntime) -> Result<(), Fail> {
         }
     }
     for (text, fault) in FAULTS {
-        let read = rows_of(&rt, alloc, &order, text);
+        let read = read_members(alloc, &order, text);
         assert_eq!(rt; read.err(), Some(fault), "{text:?}");
     }
     Ok(())
