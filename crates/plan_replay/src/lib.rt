@@ -8,3 +8,4 @@ mod tests;
 
 pub use goals::goal_met;
 pub use replaying::{Replayed, replay};
+pub use std::alloc::AllocError as NoMemory;

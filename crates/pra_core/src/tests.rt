@@ -1,5 +1,6 @@
 //! Verdicts on acts on permissions.
 use crate::decide_perm;
+use arbac_policy::ActKind::{Assign, Strong, Weak};
 use arbac_policy::{Act, ActKind, CanAssign, CanRevoke, Cond, Policy};
 use role_order::{Order, Range, RoleSet};
 use std::alloc::{AllocError, Global};
@@ -79,6 +80,39 @@ const ROWS: [Row; 10] = [
     ),
 ];
 
+const SEVERAL_USERS: [&[u16]; 3] = [&[0], &[1], &[]];
+
+const SEVERAL_PERMISSIONS: [&[u16]; 6] = [&[], &[1, 2, 3], &[3], &[4], &[1], &[3, 4]];
+
+/// Where several rules fit: an act, and the target's new set.
+const SEVERAL_GRANTED: [(ActKind, u32, u32, u16, &[u16]); 8] = [
+    // A role satisfies the roles above it, and none below it.
+    (Assign, 1, 3, 2, &[2, 4]),
+    (Assign, 1, 4, 3, &[1, 3]),
+    // For a user both pairs would block the role.
+    (Assign, 0, 5, 2, &[2, 3, 4]),
+    (Weak, 1, 5, 3, &[4]),
+    (Strong, 1, 2, 1, &[]),
+    (Strong, 1, 1, 2, &[1]),
+    (Strong, 0, 5, 3, &[]),
+    // A permission at the administrator's own place loses his administrative role, and he keeps it.
+    (Strong, 1, 1, 1, &[]),
+];
+
+/// An act, and the part that fails.
+const SEVERAL_DENIED: [(ActKind, u32, u32, u16, Part); 8] = [
+    (Assign, 2, 3, 2, Part::NoAdmin { role: 2, rule: 0 }),
+    // The administrator fits the last two rules, the last, or the first.
+    (Assign, 1, 2, 2, Part::NoCondition { role: 2, rule: 1 }),
+    (Assign, 1, 3, 3, Part::NoCondition { role: 3, rule: 2 }),
+    (Assign, 0, 0, 3, Part::NoCondition { role: 3, rule: 0 }),
+    (Assign, 0, 4, 2, Part::NoCondition { role: 2, rule: 0 }),
+    (Weak, 2, 5, 3, Part::NoAdmin { role: 3, rule: 0 }),
+    // The lesser number is taken away, and the greater one refused; or both are refused.
+    (Strong, 1, 5, 3, Part::NoAdmin { role: 4, rule: 0 }),
+    (Strong, 2, 5, 3, Part::NoAdmin { role: 3, rule: 0 }),
+];
+
 fn department(rt: &impl Abort, alloc: Global) -> Result<Order, Fail> {
     let mut names = Vec::new(alloc);
     for name in NAMES {
@@ -94,18 +128,8 @@ fn department(rt: &impl Abort, alloc: Global) -> Result<Order, Fail> {
 
 /// PSO1 gives and takes E1 up to below PL1; what is given must satisfy PE1. PE1 excludes E1.
 fn policy(rt: &impl Abort, alloc: Global) -> Result<Policy, Fail> {
-    let range = Range {
-        low: 3,
-        high: 1,
-        low_open: false,
-        high_open: true,
-    };
-    let assignp = CanAssign {
-        admin: 0,
-        cond: Cond::Has(2),
-        range,
-    };
-    let revokep = CanRevoke { admin: 0, range };
+    let assignp = gives(0, Cond::Has(2), range(3, 1, true));
+    let revokep = takes(0, range(3, 1, true));
     let policy = Policy::new(
         department(rt, alloc)?,
         Vec::new(alloc),
@@ -113,6 +137,41 @@ fn policy(rt: &impl Abort, alloc: Global) -> Result<Policy, Fail> {
         vec![in alloc; assignp]?,
         vec![in alloc; revokep]?,
         vec![in alloc; (2, 3)]?,
+    );
+    Ok(policy.ok_or("no policy")?)
+}
+
+fn range(low: u16, high: u16, high_open: bool) -> Range {
+    Range {
+        low,
+        high,
+        low_open: false,
+        high_open,
+    }
+}
+
+fn gives(admin: u16, cond: Cond, range: Range) -> CanAssign {
+    CanAssign { admin, cond, range }
+}
+
+fn takes(admin: u16, range: Range) -> CanRevoke {
+    CanRevoke { admin, range }
+}
+
+/// Three rules give PE1, and two of them E1; two take E1; E1 excludes PE1 and ED.
+fn policy_of_several(rt: &impl Abort, alloc: Global) -> Result<Policy, Fail> {
+    let given = range(3, 1, true);
+    let policy = Policy::new(
+        department(rt, alloc)?,
+        Vec::new(alloc),
+        Vec::new(alloc),
+        vec![in alloc;
+            gives(0, Cond::Has(2), given),
+            gives(1, Cond::Has(4), range(2, 2, false)),
+            gives(1, Cond::Lacks(3), given),
+        ]?,
+        vec![in alloc; takes(0, range(4, 1, true)), takes(1, range(3, 1, false))]?,
+        vec![in alloc; (2, 3), (3, 4)]?,
     );
     Ok(policy.ok_or("no policy")?)
 }
@@ -172,6 +231,37 @@ fn acts_on_permissions_are_judged_by_the_first_part_that_fails(
         };
         let verdict = decide_perm(&policy, &users, &permissions, &act);
         assert_verdict(&rt, verdict, roles, fails, at);
+    }
+    Ok(())
+}
+
+#[test]
+fn of_several_rules_the_first_is_told_and_no_pair_counts(rt: HostRuntime) -> Result<(), Fail> {
+    let alloc = rt.alloc();
+    let policy = policy_of_several(&rt, alloc)?;
+    let users = sets_of(&rt, alloc, &SEVERAL_USERS)?;
+    let permissions = sets_of(&rt, alloc, &SEVERAL_PERMISSIONS)?;
+    for (at, row) in SEVERAL_GRANTED.iter().enumerate() {
+        let (kind, admin, target, role, roles) = *row;
+        let act = Act {
+            kind,
+            admin,
+            target,
+            role,
+        };
+        let verdict = decide_perm(&policy, &users, &permissions, &act);
+        assert_verdict(&rt, verdict, roles, None, at);
+    }
+    for (at, row) in SEVERAL_DENIED.iter().enumerate() {
+        let (kind, admin, target, role, part) = *row;
+        let act = Act {
+            kind,
+            admin,
+            target,
+            role,
+        };
+        let verdict = decide_perm(&policy, &users, &permissions, &act);
+        assert_verdict(&rt, verdict, &[], Some(part), at);
     }
     Ok(())
 }

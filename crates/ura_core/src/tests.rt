@@ -1,5 +1,6 @@
 //! Verdicts on acts on users.
 use crate::{Part, Side, Verdict, decide};
+use arbac_policy::ActKind::{Assign, Strong, Weak};
 use arbac_policy::{Act, ActKind, CanAssign, CanRevoke, Cond, Policy};
 use role_order::{Order, Range, RoleSet};
 use std::alloc::{AllocError, Global};
@@ -187,6 +188,60 @@ const PAIRED: [Own; 3] = [
     (&[0, 1], 2, &[], Some(Part::Exclusive { role: 2, pair: 0 })),
 ];
 
+const SEVERAL_USERS: [&[u16]; 11] = [
+    &[0],
+    &[1],
+    &[],
+    &[6],
+    &[4],
+    &[1, 4],
+    &[1, 6],
+    &[0, 1],
+    &[0, 5],
+    &[3, 5],
+    &[1, 3, 4],
+];
+
+/// Where several rules or pairs fit: an act, and the target's new set.
+const SEVERAL_GRANTED: [(ActKind, u32, u32, u16, &[u16]); 11] = [
+    (Assign, 1, 4, 5, &[4, 5]),
+    (Assign, 0, 3, 5, &[5, 6]),
+    (Assign, 0, 10, 3, &[1, 3, 4]),
+    (Weak, 1, 9, 5, &[3]),
+    // Who revokes from himself is judged by what he holds before each weak revocation.
+    (Weak, 1, 1, 1, &[]),
+    (Strong, 1, 1, 1, &[]),
+    (Strong, 7, 7, 0, &[1]),
+    (Strong, 7, 7, 1, &[]),
+    (Strong, 8, 8, 5, &[0]),
+    // Who revokes from another user keeps what he holds.
+    (Strong, 0, 7, 1, &[]),
+    (Strong, 7, 0, 1, &[]),
+];
+
+/// An act, and the part that fails.
+const SEVERAL_DENIED: [(ActKind, u32, u32, u16, Part); 14] = [
+    // Three rules' ranges have the role, or two.
+    (Assign, 2, 2, 5, Part::NoAdmin { role: 5, rule: 0 }),
+    (Assign, 2, 2, 3, Part::NoAdmin { role: 3, rule: 0 }),
+    // The administrator fits the last two, or all of them.
+    (Assign, 1, 3, 5, Part::NoCondition { role: 5, rule: 1 }),
+    (Assign, 1, 3, 3, Part::NoCondition { role: 3, rule: 2 }),
+    (Assign, 0, 2, 5, Part::NoCondition { role: 5, rule: 0 }),
+    (Assign, 0, 2, 3, Part::NoCondition { role: 3, rule: 0 }),
+    // Two pairs block, or the last alone; the first never does.
+    (Assign, 0, 5, 3, Part::Exclusive { role: 3, pair: 1 }),
+    (Assign, 0, 6, 3, Part::Exclusive { role: 3, pair: 2 }),
+    (Weak, 2, 9, 5, Part::NoAdmin { role: 5, rule: 0 }),
+    (Weak, 1, 9, 3, Part::NoAdmin { role: 3, rule: 0 }),
+    (Weak, 2, 1, 1, Part::NoAdmin { role: 1, rule: 2 }),
+    // The second weak revocation is refused, for what he has lost by the first.
+    (Strong, 0, 0, 1, Part::NoAdmin { role: 1, rule: 2 }),
+    (Strong, 8, 8, 1, Part::NoAdmin { role: 1, rule: 2 }),
+    // Both weak revocations are refused: the lesser number is told.
+    (Strong, 2, 9, 5, Part::NoAdmin { role: 3, rule: 0 }),
+];
+
 fn order_of(
     rt: &impl Abort,
     alloc: Global,
@@ -242,6 +297,33 @@ fn policy(rt: &impl Abort, alloc: Global) -> Result<Policy, Fail> {
     Ok(policy.ok_or("no policy")?)
 }
 
+fn gives(admin: u16, cond: Cond, range: Range) -> CanAssign {
+    CanAssign { admin, cond, range }
+}
+
+fn takes(admin: u16, range: Range) -> CanRevoke {
+    CanRevoke { admin, range }
+}
+
+/// Three rules give E1, and two of them all below PL1; two take E1; QE1 and PSO1 both exclude PE1.
+fn policy_of_several(rt: &impl Abort, alloc: Global) -> Result<Policy, Fail> {
+    let all = range(5, 2, true);
+    let one = range(5, 5, false);
+    let policy = Policy::new(
+        order_of(rt, alloc, &NAMES, &EDGES)?,
+        vec![in alloc;
+            gives(0, Cond::Has(6), all),
+            gives(1, Cond::Has(3), one),
+            gives(1, Cond::Has(4), all),
+        ]?,
+        vec![in alloc; takes(0, all), takes(1, one), takes(1, range(1, 0, false))]?,
+        Vec::new(alloc),
+        Vec::new(alloc),
+        vec![in alloc; (0, 5), (3, 4), (1, 3)]?,
+    );
+    Ok(policy.ok_or("no policy")?)
+}
+
 fn set_of(rt: &impl Abort, roles: &[u16]) -> RoleSet {
     let mut set = RoleSet::empty();
     for role in roles {
@@ -251,9 +333,9 @@ fn set_of(rt: &impl Abort, roles: &[u16]) -> RoleSet {
     set
 }
 
-fn users(rt: &impl Abort, alloc: Global) -> Result<Vec<RoleSet>, AllocError> {
+fn sets_of(rt: &impl Abort, alloc: Global, rows: &[&[u16]]) -> Result<Vec<RoleSet>, AllocError> {
     let mut users = Vec::new(alloc);
-    for roles in USERS {
+    for roles in rows {
         users.push(set_of(rt, roles))?;
     }
     Ok(users)
@@ -324,7 +406,7 @@ fn assert_verdict(
 fn acts_on_users_are_judged_by_the_first_part_that_fails(rt: HostRuntime) -> Result<(), Fail> {
     let alloc = rt.alloc();
     let policy = policy(&rt, alloc)?;
-    let users = users(&rt, alloc)?;
+    let users = sets_of(&rt, alloc, &USERS)?;
     for (at, row) in ROWS.iter().enumerate() {
         let (kind, admin, target, role, roles, fails) = *row;
         let act = Act {
@@ -334,6 +416,34 @@ fn acts_on_users_are_judged_by_the_first_part_that_fails(rt: HostRuntime) -> Res
             role,
         };
         assert_verdict(&rt, decide(&policy, &users, &act), roles, fails, at);
+    }
+    Ok(())
+}
+
+#[test]
+fn of_several_rules_or_pairs_the_first_is_told(rt: HostRuntime) -> Result<(), Fail> {
+    let alloc = rt.alloc();
+    let policy = policy_of_several(&rt, alloc)?;
+    let users = sets_of(&rt, alloc, &SEVERAL_USERS)?;
+    for (at, row) in SEVERAL_GRANTED.iter().enumerate() {
+        let (kind, admin, target, role, roles) = *row;
+        let act = Act {
+            kind,
+            admin,
+            target,
+            role,
+        };
+        assert_verdict(&rt, decide(&policy, &users, &act), roles, None, at);
+    }
+    for (at, row) in SEVERAL_DENIED.iter().enumerate() {
+        let (kind, admin, target, role, part) = *row;
+        let act = Act {
+            kind,
+            admin,
+            target,
+            role,
+        };
+        assert_verdict(&rt, decide(&policy, &users, &act), &[], Some(part), at);
     }
     Ok(())
 }
