@@ -17,14 +17,14 @@ use Rattle.cond_text.specs.Reading.{IsRefused as IsRefusedCond}
 use Rattle.policy_text.specs.declared.run_error.RunError.{RunError}
 use Rattle.policy_text.specs.declared.run_error.RunError.TheVariants.{BadLine, UnknownRole, Order, Cond, TooMany, Unended, Memory}
 use Rattle.policy_text.specs.Lines.{split, is_order_line}
-use Rattle.policy_text.specs.Shapes.{Shape, NamedRange, a_role, an_edge, an_assign, a_revoke, a_user, an_act, a_goal, IsShape, tells_order, spell}
-use Rattle.policy_text.specs.Spelling.{shape_of}
-use Rattle.policy_text.specs.Runs.{RunValue, nothing, MayStand, HasRoom, Names, NameEach, Says, Gains, Adds, AddAll, behind_edges, IsReadTo, StandsFor}
+use Rattle.policy_text.specs.LineForms.{LineForm, NamedRange, a_role, an_edge, an_assign, a_revoke, a_user, an_act, a_goal, IsWellFormed, tells_order, spell}
+use Rattle.policy_text.specs.Spelling.{form_of}
+use Rattle.policy_text.specs.Runs.{RunValue, nothing, MayStand, HasRoom, Names, NameEach, ReadsAs, Extends, Adds, AddAll, behind_edges, IsReadTo, StandsFor}
 use Rattle.policy_text.specs.Faults.{IsUnknown, HasUnknown, HasCondFault, IsLineFault, EndsOrder, IsFaultInside, IsFaultAhead, IsFaultBehind, IsOrderFault, IsUnended, IsFirstFault}
 use Rattle.policy_text.proofs.OrderLemmas.{order_clash}
 use Rattle.policy_text.proofs.FormLemmas.{form_found}
 use Rattle.policy_text.proofs.StepLemmas.{order_line_is, no_end, begun}
-use Rattle.policy_text.proofs.SoleLemmas.{gains_one}
+use Rattle.policy_text.proofs.SoleLemmas.{extends_one}
 
 -- conditions
 
@@ -41,11 +41,11 @@ cond_clash count size (x ∷ xs) before f t h k st = elim h [
   | inr a ↦ cond_clash count size xs (before ++ (x.word ∷ [])) f t a.1 k.1 (subst (λ (ws : List Word). Stands ws t) (sym (append_assoc before (x.word ∷ []) (plain xs))) st)
 ]
 
-says_clash : (names : List (List ℕ)) (text : List ℕ) (term : Term) (error : CondError) → Says names text term → IsRefusedCond names text error → (error ≡ conditions.Memory → ⊥) → ⊥
-says_clash names text term (conditions.Unexpected place) s r m = cond_clash (length names) (length text) (placed_words names text) [] (conditions.Unexpected place) term r s.1 s.0
-says_clash names text term (conditions.UnknownRole place) s r m = cond_clash (length names) (length text) (placed_words names text) [] (conditions.UnknownRole place) term r s.1 s.0
-says_clash names text term (conditions.TooDeep place) s r m = cond_clash (length names) (length text) (placed_words names text) [] (conditions.TooDeep place) term r s.1 s.0
-says_clash names text term conditions.Memory s r m = m refl
+reads_clash : (names : List (List ℕ)) (text : List ℕ) (term : Term) (error : CondError) → ReadsAs names text term → IsRefusedCond names text error → (error ≡ conditions.Memory → ⊥) → ⊥
+reads_clash names text term (conditions.Unexpected place) s r m = cond_clash (length names) (length text) (placed_words names text) [] (conditions.Unexpected place) term r s.1 s.0
+reads_clash names text term (conditions.UnknownRole place) s r m = cond_clash (length names) (length text) (placed_words names text) [] (conditions.UnknownRole place) term r s.1 s.0
+reads_clash names text term (conditions.TooDeep place) s r m = cond_clash (length names) (length text) (placed_words names text) [] (conditions.TooDeep place) term r s.1 s.0
+reads_clash names text term conditions.Memory s r m = m refl
 
 -- lines
 
@@ -61,7 +61,7 @@ each_clash names [] roles h u = u
 each_clash names (word ∷ words) roles h (inl u) = named_clash names word h.0 h.2 u
 each_clash names (word ∷ words) roles h (inr u) = each_clash names words h.1 h.3 u
 
-pub known_clash : (run next : RunValue) (shape : Shape) → Gains run shape next → HasUnknown run.names shape → ⊥
+pub known_clash : (run next : RunValue) (form : LineForm) → Extends run form next → HasUnknown run.names form → ⊥
 known_clash run next (a_role name) g u = u
 known_clash run next (an_edge senior junior) g (inl u) = named_clash run.names senior g.0.0 g.1 u
 known_clash run next (an_edge senior junior) g (inr u) = named_clash run.names junior g.0.1 g.2 u
@@ -73,9 +73,9 @@ known_clash run next (a_user words) g u = each_clash run.names words g.1.roles g
 known_clash run next (an_act kind admin target role) g u = named_clash run.names role g.0.role g.4 u
 known_clash run next (a_goal condition) g u = u
 
-condition_clash : (run next : RunValue) (shape : Shape) (error : CondError) → Gains run shape next → HasCondFault run.names shape error → ⊥
-condition_clash run next (an_assign admin range condition) error g f = says_clash run.names condition g.0.cond error g.3 f.0 f.1
-condition_clash run next (a_goal condition) error g f = says_clash run.names condition g.0 error g.1 f.0 f.1
+condition_clash : (run next : RunValue) (form : LineForm) (error : CondError) → Extends run form next → HasCondFault run.names form error → ⊥
+condition_clash run next (an_assign admin range condition) error g f = reads_clash run.names condition g.0.cond error g.3 f.0 f.1
+condition_clash run next (a_goal condition) error g f = reads_clash run.names condition g.0 error g.1 f.0 f.1
 condition_clash run next (a_role name) error g f = f
 condition_clash run next (an_edge senior junior) error g f = f
 condition_clash run next (a_revoke admin range) error g f = f
@@ -83,23 +83,23 @@ condition_clash run next (a_user words) error g f = f
 condition_clash run next (an_act kind admin target role) error g f = f
 
 -- two forms with one spelling are one
-pub spell_one : (a b : Shape) → IsShape a → IsShape b → spell a ≡ spell b → a ≡ b
-spell_one a b h k e = let s : Some a ≡ Some b = sym (form_found a h) ∙ ap shape_of e ∙ form_found b k in cc
+pub spell_one : (a b : LineForm) → IsWellFormed a → IsWellFormed b → spell a ≡ spell b → a ≡ b
+spell_one a b h k e = let s : Some a ≡ Some b = sym (form_found a h) ∙ ap form_of e ∙ form_found b k in cc
 
-pub no_last : (shape : Shape) → IsShape shape → spell shape ≡ codes "end" → ⊥
-no_last shape h e = no_end (spell shape) shape (form_found shape h) e
+pub no_last : (form : LineForm) → IsWellFormed form → spell form ≡ codes "end" → ⊥
+no_last form h e = no_end (spell form) form (form_found form h) e
 
-pub adds_clash : (run next : RunValue) (line : List ℕ) (shape : Shape) (number : ℕ) (fault : RunError) → IsShape shape → spell shape ≡ line → Adds run shape next → (fault ≡ Memory → ⊥) → IsLineFault run line number fault → ⊥
-adds_clash run next line shape number (BadLine at) h s a m f = f.1 shape (record { formed = h; spelled = s; place = a.place })
-adds_clash run next line shape number (TooMany at) h s a m f =
-    f.3 (subst (HasRoom run) (spell_one shape f.1 h f.2.formed (s ∙ sym f.2.spelled)) a.room)
-adds_clash run next line shape number (UnknownRole at) h s a m f =
-    known_clash run next f.1 (subst (λ (t : Shape). Gains run t next) (spell_one shape f.1 h f.2.formed (s ∙ sym f.2.spelled)) a.gains) f.4
-adds_clash run next line shape number (Cond at error) h s a m f =
-    condition_clash run next f.1 error (subst (λ (t : Shape). Gains run t next) (spell_one shape f.1 h f.2.formed (s ∙ sym f.2.spelled)) a.gains) f.5
-adds_clash run next line shape number (Order error) h s a m f = f
-adds_clash run next line shape number Unended h s a m f = f
-adds_clash run next line shape number Memory h s a m f = m refl
+pub adds_clash : (run next : RunValue) (line : List ℕ) (form : LineForm) (number : ℕ) (fault : RunError) → IsWellFormed form → spell form ≡ line → Adds run form next → (fault ≡ Memory → ⊥) → IsLineFault run line number fault → ⊥
+adds_clash run next line form number (BadLine at) h s a m f = f.1 form (record { formed = h; spelled = s; place = a.place })
+adds_clash run next line form number (TooMany at) h s a m f =
+    f.3 (subst (HasRoom run) (spell_one form f.1 h f.2.formed (s ∙ sym f.2.spelled)) a.room)
+adds_clash run next line form number (UnknownRole at) h s a m f =
+    known_clash run next f.1 (subst (λ (t : LineForm). Extends run t next) (spell_one form f.1 h f.2.formed (s ∙ sym f.2.spelled)) a.extends) f.4
+adds_clash run next line form number (Cond at error) h s a m f =
+    condition_clash run next f.1 error (subst (λ (t : LineForm). Extends run t next) (spell_one form f.1 h f.2.formed (s ∙ sym f.2.spelled)) a.extends) f.5
+adds_clash run next line form number (Order error) h s a m f = f
+adds_clash run next line form number Unended h s a m f = f
+adds_clash run next line form number Memory h s a m f = m refl
 
 pub end_clash : (run : RunValue) (line : List ℕ) (number : ℕ) (fault : RunError) → line ≡ codes "end" → 1 ≤ length run.goal → (fault ≡ Memory → ⊥) → IsLineFault run line number fault → ⊥
 end_clash run line number (BadLine at) e g m f = let z : length run.goal ≡ 0 = f.2 e in absurd (omega arith)
@@ -112,40 +112,40 @@ end_clash run line number Memory e g m f = m refl
 
 -- the line is one more right line on the way to the last run
 pub record IsOnTheWay (mid : RunValue) (line : List ℕ) (last : RunValue) : Type 0 where
-  pub shape : Shape
-  pub formed : IsShape shape
-  pub spelled : spell shape ≡ line
+  pub form : LineForm
+  pub formed : IsWellFormed form
+  pub spelled : spell form ≡ line
   pub next : RunValue
-  pub adds : Adds mid shape next
-  pub more : List Shape
-  pub each : Each IsShape more
+  pub adds : Adds mid form next
+  pub more : List LineForm
+  pub each : Each IsWellFormed more
   pub rest : AddAll next more last
 
 pub same_cons : {A : Type 0} (x y : A) (xs ys : List A) → x ∷ xs ≡ y ∷ ys → (x ≡ y) × (xs ≡ ys)
 same_cons x y xs ys e = (cc, cc)
 
 -- right lines before a line, and all right lines before the last one, tell what the line is
-aligned : (before all : List Shape) (run mid last : RunValue) (line : List ℕ) (later : List (List ℕ)) → Each IsShape before → Each IsShape all
+aligned : (before all : List LineForm) (run mid last : RunValue) (line : List ℕ) (later : List (List ℕ)) → Each IsWellFormed before → Each IsWellFormed all
     → map spell before ++ (line ∷ later) ≡ map spell all ++ (codes "end" ∷ []) → AddAll run before mid → AddAll run all last
     → IsOnTheWay mid line last ⊎ ((line ≡ codes "end") × (later ≡ []) × (mid ≡ last))
 aligned [] [] run mid last line later hb ha e b a = let s = same_cons line (codes "end") later [] e in inr (s.0, s.1, b ∙ sym a)
-aligned [] (shape ∷ more) run mid last line later hb ha e b a =
-    let s = same_cons line (spell shape) later (map spell more ++ (codes "end" ∷ [])) e in
-    inl (record { shape = shape; formed = ha.0; spelled = sym s.0; next = a.0; adds = subst (λ (r : RunValue). Adds r shape a.0) (sym b) a.1; more = more; each = ha.1; rest = a.2 })
-aligned (shape ∷ before) [] run mid last line later hb ha e b a =
-    absurd (no_last shape hb.0 (same_cons (spell shape) (codes "end") (map spell before ++ (line ∷ later)) [] e).0)
-aligned (shape ∷ before) (other ∷ all) run mid last line later hb ha e b a =
-    let s = same_cons (spell shape) (spell other) (map spell before ++ (line ∷ later)) (map spell all ++ (codes "end" ∷ [])) e in
-    let one : shape ≡ other = spell_one shape other hb.0 ha.0 s.0 in
-    let next : b.0 ≡ a.0 = gains_one run b.0 a.0 other (subst (λ (t : Shape). Gains run t b.0) one b.1.gains) a.1.gains in
+aligned [] (form ∷ more) run mid last line later hb ha e b a =
+    let s = same_cons line (spell form) later (map spell more ++ (codes "end" ∷ [])) e in
+    inl (record { form = form; formed = ha.0; spelled = sym s.0; next = a.0; adds = subst (λ (r : RunValue). Adds r form a.0) (sym b) a.1; more = more; each = ha.1; rest = a.2 })
+aligned (form ∷ before) [] run mid last line later hb ha e b a =
+    absurd (no_last form hb.0 (same_cons (spell form) (codes "end") (map spell before ++ (line ∷ later)) [] e).0)
+aligned (form ∷ before) (other ∷ all) run mid last line later hb ha e b a =
+    let s = same_cons (spell form) (spell other) (map spell before ++ (line ∷ later)) (map spell all ++ (codes "end" ∷ [])) e in
+    let one : form ≡ other = spell_one form other hb.0 ha.0 s.0 in
+    let next : b.0 ≡ a.0 = extends_one run b.0 a.0 other (subst (λ (t : LineForm). Extends run t b.0) one b.1.extends) a.1.extends in
     aligned before all a.0 mid last line later hb.1 ha.1 s.1 (subst (λ (r : RunValue). AddAll r before mid) next b.2) a.2
 
 -- the last line is no form's
-unaligned : (before all : List Shape) → Each IsShape before → map spell before ++ [] ≡ map spell all ++ (codes "end" ∷ []) → ⊥
+unaligned : (before all : List LineForm) → Each IsWellFormed before → map spell before ++ [] ≡ map spell all ++ (codes "end" ∷ []) → ⊥
 unaligned [] [] h e = absurd (cc)
 unaligned [] (other ∷ all) h e = absurd (cc)
-unaligned (shape ∷ before) [] h e = no_last shape h.0 (same_cons (spell shape) (codes "end") (map spell before ++ []) [] e).0
-unaligned (shape ∷ before) (other ∷ all) h e = unaligned before all h.1 (same_cons (spell shape) (spell other) (map spell before ++ []) (map spell all ++ (codes "end" ∷ [])) e).1
+unaligned (form ∷ before) [] h e = no_last form h.0 (same_cons (spell form) (codes "end") (map spell before ++ []) [] e).0
+unaligned (form ∷ before) (other ∷ all) h e = unaligned before all h.1 (same_cons (spell form) (spell other) (map spell before ++ []) (map spell all ++ (codes "end" ∷ [])) e).1
 
 -- the lines of two readings of one text
 same_lines : (bytes : List ℕ) (run last : RunValue) (n m : ℕ) (left : List (List ℕ)) (part : List ℕ) → (r : IsReadTo bytes run n left part) → (s : IsReadTo bytes last m (codes "end" ∷ []) [])
@@ -161,11 +161,11 @@ one_run bytes a b h k =
     by_case (aligned h.read.lines k.read.lines nothing a b (codes "end") [] h.read.formed k.read.formed s.0 h.read.added k.read.added)
   where
     by_case : IsOnTheWay a (codes "end") b ⊎ ((codes "end" ≡ codes "end") × (◌≡◌ {A = List (List ℕ)} [] []) × (a ≡ b)) → a ≡ b
-    by_case (inl w) = absurd (no_last w.shape w.formed w.spelled)
+    by_case (inl w) = absurd (no_last w.form w.formed w.spelled)
     by_case (inr e) = e.2
 
 -- what lines behind the role order keep
-pub keep_one : (run next : RunValue) (shape : Shape) → tells_order shape ≡ false → Gains run shape next → (next.names ≡ run.names) × (next.edges ≡ run.edges)
+pub keep_one : (run next : RunValue) (form : LineForm) → tells_order form ≡ false → Extends run form next → (next.names ≡ run.names) × (next.edges ≡ run.edges)
 keep_one run next (a_role name) t g = absurd (cc)
 keep_one run next (an_edge senior junior) t g = absurd (cc)
 keep_one run next (an_assign admin range condition) t g = (ap (λ (r : RunValue). r.names) g.4, ap (λ (r : RunValue). r.edges) g.4)
@@ -174,7 +174,7 @@ keep_one run next (a_user words) t g = (ap (λ (r : RunValue). r.names) g.2, ap 
 keep_one run next (an_act kind admin target role) t g = (ap (λ (r : RunValue). r.names) g.5, ap (λ (r : RunValue). r.edges) g.5)
 keep_one run next (a_goal condition) t g = (ap (λ (r : RunValue). r.names) g.2, ap (λ (r : RunValue). r.edges) g.2)
 
-pub no_order : (run : RunValue) (shape : Shape) → (behind_edges run ≡ 0 → ⊥) → MayStand run shape → tells_order shape ≡ false
+pub no_order : (run : RunValue) (form : LineForm) → (behind_edges run ≡ 0 → ⊥) → MayStand run form → tells_order form ≡ false
 no_order run (a_role name) late p = absurd (late (second (length run.edges) (behind_edges run) p))
   where
     second : (a b : ℕ) → a + b ≡ 0 → b ≡ 0
@@ -186,15 +186,15 @@ no_order run (a_user words) late p = refl
 no_order run (an_act kind admin target role) late p = refl
 no_order run (a_goal condition) late p = refl
 
-pub still_late : (run next : RunValue) (shape : Shape) → IsShape shape → tells_order shape ≡ false → Adds run shape next → behind_edges next ≡ 0 → ⊥
-still_late run next shape h t a =
-    begun run next (spell shape) (record { shape = shape; formed = h; spelled = refl; adds = a }) (λ o. absurd (false≢true (sym t ∙ sym (order_line_is shape) ∙ o)))
+pub still_late : (run next : RunValue) (form : LineForm) → IsWellFormed form → tells_order form ≡ false → Adds run form next → behind_edges next ≡ 0 → ⊥
+still_late run next form h t a =
+    begun run next (spell form) (record { form = form; formed = h; spelled = refl; adds = a }) (λ o. absurd (false≢true (sym t ∙ sym (order_line_is form) ∙ o)))
 
-pub keep_all : (run last : RunValue) (lines : List Shape) → Each IsShape lines → (behind_edges run ≡ 0 → ⊥) → AddAll run lines last → (last.names ≡ run.names) × (last.edges ≡ run.edges)
+pub keep_all : (run last : RunValue) (lines : List LineForm) → Each IsWellFormed lines → (behind_edges run ≡ 0 → ⊥) → AddAll run lines last → (last.names ≡ run.names) × (last.edges ≡ run.edges)
 keep_all run last [] h late a = (ap (λ (r : RunValue). r.names) a, ap (λ (r : RunValue). r.edges) a)
 keep_all run last (line ∷ lines) h late a =
     let t = no_order run line late a.1.place in
-    let k = keep_one run a.0 line t a.1.gains in
+    let k = keep_one run a.0 line t a.1.extends in
     let l = keep_all a.0 last lines h.1 (still_late run a.0 line h.0 t a.1) a.2 in
     (l.0 ∙ k.0, l.1 ∙ k.1)
 
@@ -205,7 +205,7 @@ inside_clash bytes value fault h m f =
     by_case (aligned f.read.lines h.read.lines nothing f.run value f.line f.later f.read.formed h.read.formed s.0 f.read.added h.read.added)
   where
     by_case : IsOnTheWay f.run f.line value ⊎ ((f.line ≡ codes "end") × (f.later ≡ []) × (f.run ≡ value)) → ⊥
-    by_case (inl w) = adds_clash f.run w.next f.line w.shape f.number fault w.formed w.spelled w.adds m f.fault_is
+    by_case (inl w) = adds_clash f.run w.next f.line w.form f.number fault w.formed w.spelled w.adds m f.fault_is
     by_case (inr e) = end_clash f.run f.line f.number fault e.0 (subst (λ (r : RunValue). 1 ≤ length r.goal) (sym e.2) h.goal) m f.fault_is
 
 ahead_clash : (bytes : List ℕ) (value : RunValue) (at : ℕ) → StandsFor bytes value → IsFaultAhead bytes at → ⊥
@@ -217,7 +217,7 @@ behind_clash bytes value at h f =
     by_case s.1 (aligned f.read.lines h.read.lines nothing f.run value (codes "end") f.later f.read.formed h.read.formed s.0 f.read.added h.read.added)
   where
     by_case : f.part ≡ [] → IsOnTheWay f.run (codes "end") value ⊎ ((codes "end" ≡ codes "end") × (f.later ≡ []) × (f.run ≡ value)) → ⊥
-    by_case p (inl w) = no_last w.shape w.formed w.spelled
+    by_case p (inl w) = no_last w.form w.formed w.spelled
     by_case p (inr e) = f.more (e.1, p)
 
 order_fault_clash : (bytes : List ℕ) (value : RunValue) (error : OrderError) → StandsFor bytes value → IsOrderFault bytes error → ⊥
@@ -233,9 +233,9 @@ order_fault_clash bytes value error h f =
 
     by_case : (line : List ℕ) (later : List (List ℕ)) → is_order_line line ≡ false → IsOnTheWay f.run line value ⊎ ((line ≡ codes "end") × (later ≡ []) × (f.run ≡ value)) → ⊥
     by_case line later o (inl w) =
-        let t : tells_order w.shape ≡ false = sym (order_line_is w.shape) ∙ ap is_order_line w.spelled ∙ o in
-        let k = keep_one f.run w.next w.shape t w.adds.gains in
-        let l = keep_all w.next value w.more w.each (still_late f.run w.next w.shape w.formed t w.adds) w.rest in
+        let t : tells_order w.form ≡ false = sym (order_line_is w.form) ∙ ap is_order_line w.spelled ∙ o in
+        let k = keep_one f.run w.next w.form t w.adds.extends in
+        let l = keep_all w.next value w.more w.each (still_late f.run w.next w.form w.formed t w.adds) w.rest in
         kept (l.0 ∙ k.0) (l.1 ∙ k.1)
     by_case line later o (inr e) = kept (ap (λ (r : RunValue). r.names) (sym e.2)) (ap (λ (r : RunValue). r.edges) (sym e.2))
 

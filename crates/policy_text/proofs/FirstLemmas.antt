@@ -16,11 +16,11 @@ use Rattle.cond_text.specs.Reading.{IsRefused as IsRefusedCond}
 use Rattle.policy_text.specs.declared.run_error.RunError.{RunError}
 use Rattle.policy_text.specs.declared.run_error.RunError.TheVariants.{BadLine, UnknownRole, Order, Cond, TooMany, Unended, Memory}
 use Rattle.policy_text.specs.Lines.{split, is_order_line}
-use Rattle.policy_text.specs.Shapes.{Shape, a_role, an_edge, an_assign, a_revoke, a_user, an_act, a_goal, IsShape, tells_order, spell}
+use Rattle.policy_text.specs.LineForms.{LineForm, a_role, an_edge, an_assign, a_revoke, a_user, an_act, a_goal, IsWellFormed, tells_order, spell}
 use Rattle.policy_text.specs.Runs.{RunValue, nothing, HasRoom, Adds, AddAll, behind_edges, IsReadTo}
 use Rattle.policy_text.specs.Faults.{HasUnknown, HasCondFault, IsPlaced, IsLineFault, IsPastOrder, EndsOrder, IsFaultInside, IsFaultAhead, IsFirstFault}
 use Rattle.policy_text.proofs.StepLemmas.{order_line_is}
-use Rattle.policy_text.proofs.SoleLemmas.{gains_one}
+use Rattle.policy_text.proofs.SoleLemmas.{extends_one}
 use Rattle.policy_text.proofs.OrderLemmas.{order_clash, refusal_one}
 use Rattle.policy_text.proofs.ClashLemmas.{IsOnTheWay, cond_clash_at, adds_clash, end_clash, no_last, spell_one, same_cons, keep_one, no_order, still_late, keep_all}
 
@@ -58,7 +58,7 @@ refused_one : (names : List (List ℕ)) (text : List ℕ) (a b : CondError) → 
 refused_one names text a b f g =
     cond_fault_one (length names) (length text) (placed_words names text) [] a b (refused_is names text a f.0 f.1) (refused_is names text b g.0 g.1)
 
-condition_one : (names : List (List ℕ)) (shape : Shape) (a b : CondError) → HasCondFault names shape a → HasCondFault names shape b → a ≡ b
+condition_one : (names : List (List ℕ)) (form : LineForm) (a b : CondError) → HasCondFault names form a → HasCondFault names form b → a ≡ b
 condition_one names (an_assign admin range condition) a b f g = refused_one names condition a b f g
 condition_one names (a_goal condition) a b f g = refused_one names condition a b f g
 condition_one names (a_role name) a b f g = absurd f
@@ -69,7 +69,7 @@ condition_one names (an_act kind admin target role) a b f g = absurd f
 
 -- lines
 
-form_one : (run : RunValue) (line : List ℕ) (a b : Shape) → IsPlaced run line a → IsPlaced run line b → a ≡ b
+form_one : (run : RunValue) (line : List ℕ) (a b : LineForm) → IsPlaced run line a → IsPlaced run line b → a ≡ b
 form_one run line a b f g = spell_one a b f.formed g.formed (f.spelled ∙ sym g.spelled)
 
 cond_pair : (m n : ℕ) (a b : CondError) → m ≡ n → a ≡ b → Cond m a ≡ Cond n b
@@ -108,7 +108,7 @@ line_one run line number (Cond k e) (BadLine l) f g m n = absurd (g.1 f.1 f.2)
 line_one run line number (Cond k e) (TooMany l) f g m n = absurd (g.3 (subst (HasRoom run) (form_one run line f.1 g.1 f.2 g.2) f.3))
 line_one run line number (Cond k e) (UnknownRole l) f g m n = absurd (f.4 (subst (HasUnknown run.names) (form_one run line g.1 f.1 g.2 f.2) g.4))
 line_one run line number (Cond k e) (Cond l d) f g m n =
-    cond_pair k l e d (f.0 ∙ sym g.0) (condition_one run.names g.1 e d (subst (λ (s : Shape). HasCondFault run.names s e) (form_one run line f.1 g.1 f.2 g.2) f.5) g.5)
+    cond_pair k l e d (f.0 ∙ sym g.0) (condition_one run.names g.1 e d (subst (λ (s : LineForm). HasCondFault run.names s e) (form_one run line f.1 g.1 f.2 g.2) f.5) g.5)
 
 -- where a text stops
 
@@ -193,7 +193,7 @@ record GoesFurther (run : RunValue) (left : List (List ℕ)) (last : RunValue) :
   left_is : left ≡ line ∷ later
   way : IsOnTheWay run line last
 
-late_all : (run last : RunValue) (lines : List Shape) → Each IsShape lines → (behind_edges run ≡ 0 → ⊥) → AddAll run lines last → behind_edges last ≡ 0 → ⊥
+late_all : (run last : RunValue) (lines : List LineForm) → Each IsWellFormed lines → (behind_edges run ≡ 0 → ⊥) → AddAll run lines last → behind_edges last ≡ 0 → ⊥
 late_all run last [] h late a = subst (λ (r : RunValue). behind_edges r ≡ 0 → ⊥) (sym a) late
 late_all run last (line ∷ lines) h late a =
     late_all a.0 last lines h.1 (still_late run a.0 line h.0 (no_order run line late a.1.place) a.1) a.2
@@ -213,16 +213,16 @@ late_order run number left fault (unended f) late = f.order
 stop_clash : (run last : RunValue) (n m : ℕ) (left right : List (List ℕ)) (a b : RunError) → Stops run n left a → Stops last m right b → GoesFurther run left last → ⊥
 stop_clash run last n m left right a b (in_line f) t g =
     let s = same_cons f.line g.line f.later g.later (sym f.left_is ∙ g.left_is) in
-    adds_clash run g.way.next f.line g.way.shape n a g.way.formed (g.way.spelled ∙ sym s.0) g.way.adds f.told f.fault_is
+    adds_clash run g.way.next f.line g.way.form n a g.way.formed (g.way.spelled ∙ sym s.0) g.way.adds f.told f.fault_is
 stop_clash run last n m left right a b (behind_end f) t g =
     let s = same_cons (codes "end") g.line f.later g.later (sym f.left_is ∙ g.left_is) in
-    no_last g.way.shape g.way.formed (g.way.spelled ∙ sym s.0)
+    no_last g.way.form g.way.formed (g.way.spelled ∙ sym s.0)
 stop_clash run last n m left right a b (at_order f) t g =
     let w = g.way in
     let o : is_order_line g.line ≡ false = subst EndsOrder g.left_is f.ends in
-    let none : tells_order w.shape ≡ false = sym (order_line_is w.shape) ∙ ap is_order_line w.spelled ∙ o in
-    let late = still_late run w.next w.shape w.formed none w.adds in
-    let k = keep_one run w.next w.shape none w.adds.gains in
+    let none : tells_order w.form ≡ false = sym (order_line_is w.form) ∙ ap is_order_line w.spelled ∙ o in
+    let late = still_late run w.next w.form w.formed none w.adds in
+    let k = keep_one run w.next w.form none w.adds.extends in
     let l = keep_all w.next last w.more w.each late w.rest in
     let order = late_order last m right b t (late_all w.next last w.more w.each late w.rest) in
     let P : List (List ℕ) → Type 0 = λ names. IsOrder names run.edges in
@@ -231,25 +231,25 @@ stop_clash run last n m left right a b (at_order f) t g =
 stop_clash run last n m left right a b (unended f) t g = cons_clash left g.line g.later g.left_is f.left_is
 
 -- two readings of one text: they end at one place, or one goes further
-compare : (xs ys : List Shape) (run a b : RunValue) (left right : List (List ℕ)) → Each IsShape xs → Each IsShape ys → map spell xs ++ left ≡ map spell ys ++ right → AddAll run xs a → AddAll run ys b
+compare : (xs ys : List LineForm) (run a b : RunValue) (left right : List (List ℕ)) → Each IsWellFormed xs → Each IsWellFormed ys → map spell xs ++ left ≡ map spell ys ++ right → AddAll run xs a → AddAll run ys b
     → ((left ≡ right) × (a ≡ b) × (length xs ≡ length ys)) ⊎ (GoesFurther a left b ⊎ GoesFurther b right a)
 compare [] [] run a b left right hx hy e f g = inl (e, f ∙ sym g, refl)
 compare [] (y ∷ ys) run a b left right hx hy e f g = inr (inl (record {
   line = spell y;
   later = map spell ys ++ right;
   left_is = e;
-  way = record { shape = y; formed = hy.0; spelled = refl; next = g.0; adds = subst (λ (r : RunValue). Adds r y g.0) (sym f) g.1; more = ys; each = hy.1; rest = g.2 };
+  way = record { form = y; formed = hy.0; spelled = refl; next = g.0; adds = subst (λ (r : RunValue). Adds r y g.0) (sym f) g.1; more = ys; each = hy.1; rest = g.2 };
 }))
 compare (x ∷ xs) [] run a b left right hx hy e f g = inr (inr (record {
   line = spell x;
   later = map spell xs ++ left;
   left_is = sym e;
-  way = record { shape = x; formed = hx.0; spelled = refl; next = f.0; adds = subst (λ (r : RunValue). Adds r x f.0) (sym g) f.1; more = xs; each = hx.1; rest = f.2 };
+  way = record { form = x; formed = hx.0; spelled = refl; next = f.0; adds = subst (λ (r : RunValue). Adds r x f.0) (sym g) f.1; more = xs; each = hx.1; rest = f.2 };
 }))
 compare (x ∷ xs) (y ∷ ys) run a b left right hx hy e f g =
     let s = same_cons (spell x) (spell y) (map spell xs ++ left) (map spell ys ++ right) e in
     let one : x ≡ y = spell_one x y hx.0 hy.0 s.0 in
-    let next : f.0 ≡ g.0 = gains_one run f.0 g.0 y (subst (λ (t : Shape). Adds run t f.0) one f.1).gains g.1.gains in
+    let next : f.0 ≡ g.0 = extends_one run f.0 g.0 y (subst (λ (t : LineForm). Adds run t f.0) one f.1).extends g.1.extends in
     longer (compare xs ys g.0 a b left right hx.1 hy.1 s.1 (subst (λ (r : RunValue). AddAll r xs a) next f.2) g.2)
   where
     longer : ((left ≡ right) × (a ≡ b) × (length xs ≡ length ys)) ⊎ (GoesFurther a left b ⊎ GoesFurther b right a)

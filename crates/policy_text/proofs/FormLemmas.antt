@@ -9,8 +9,8 @@ use Rattle.role_order.specs.Names.{is_name}
 use Rattle.arbac_policy.specs.declared.act.ActKind.{ActKind}
 use Rattle.arbac_policy.specs.declared.act.ActKind.TheVariants.{Assign, Weak, Strong}
 use Rattle.policy_text.specs.Lines.{cut}
-use Rattle.policy_text.specs.Shapes.{Shape, NamedRange, a_role, an_edge, an_assign, a_revoke, a_user, an_act, a_goal, IsName, IsNamedRange, IsShape, spell, spell_kind, spell_range, spell_names}
-use Rattle.policy_text.specs.Spelling.{name_in, text_in, opening_in, closing_in, range_in, kind_in, role_in, edge_in, assign_in, revoke_in, user_in, words, names_behind, act_in, goal_in, keyword_in, shape_of}
+use Rattle.policy_text.specs.LineForms.{LineForm, NamedRange, a_role, an_edge, an_assign, a_revoke, a_user, an_act, a_goal, IsName, IsNamedRange, IsWellFormed, spell, spell_kind, spell_range, spell_names}
+use Rattle.policy_text.specs.Spelling.{name_in, text_in, opening_in, closing_in, range_in, kind_in, role_in, edge_in, assign_in, revoke_in, user_in, words, names_behind, act_in, goal_in, keyword_in, form_of}
 use Rattle.policy_text.proofs.LineLemmas.{Lacks, cut_behind, cut_nowhere}
 use Rattle.policy_text.proofs.WordLemmas.{name_lacks, words_cut, words_one}
 use Rattle.policy_text.proofs.NumberLemmas.{number_found, decimal_lacks}
@@ -144,40 +144,40 @@ goal_found : (condition : List ℕ) → IsUtf8 condition → goal_in condition �
 unfolding goal_in
 goal_found condition h = rw (text_found condition h) refl
 
-at_role : (rest : List ℕ) → shape_of (codes "role " ++ rest) ≡ role_in rest
-unfolding shape_of cut keyword_in
+at_role : (rest : List ℕ) → form_of (codes "role " ++ rest) ≡ role_in rest
+unfolding form_of cut keyword_in
 at_role rest = refl
 
-at_edge : (rest : List ℕ) → shape_of (codes "edge " ++ rest) ≡ edge_in rest
-unfolding shape_of cut keyword_in
+at_edge : (rest : List ℕ) → form_of (codes "edge " ++ rest) ≡ edge_in rest
+unfolding form_of cut keyword_in
 at_edge rest = refl
 
-at_assign : (rest : List ℕ) → shape_of (codes "assign " ++ rest) ≡ assign_in rest
-unfolding shape_of cut keyword_in
+at_assign : (rest : List ℕ) → form_of (codes "assign " ++ rest) ≡ assign_in rest
+unfolding form_of cut keyword_in
 at_assign rest = refl
 
-at_revoke : (rest : List ℕ) → shape_of (codes "revoke " ++ rest) ≡ revoke_in rest
-unfolding shape_of cut keyword_in
+at_revoke : (rest : List ℕ) → form_of (codes "revoke " ++ rest) ≡ revoke_in rest
+unfolding form_of cut keyword_in
 at_revoke rest = refl
 
-at_user : (rest : List ℕ) → shape_of (codes "user " ++ rest) ≡ user_in rest
-unfolding shape_of cut keyword_in
+at_user : (rest : List ℕ) → form_of (codes "user " ++ rest) ≡ user_in rest
+unfolding form_of cut keyword_in
 at_user rest = refl
 
-at_nobody : shape_of (codes "user") ≡ Some (a_user [])
-unfolding shape_of cut
+at_nobody : form_of (codes "user") ≡ Some (a_user [])
+unfolding form_of cut
 at_nobody = refl
 
-at_act : (rest : List ℕ) → shape_of (codes "act " ++ rest) ≡ act_in rest
-unfolding shape_of cut keyword_in
+at_act : (rest : List ℕ) → form_of (codes "act " ++ rest) ≡ act_in rest
+unfolding form_of cut keyword_in
 at_act rest = refl
 
-at_goal : (rest : List ℕ) → shape_of (codes "goal " ++ rest) ≡ goal_in rest
-unfolding shape_of cut keyword_in
+at_goal : (rest : List ℕ) → form_of (codes "goal " ++ rest) ≡ goal_in rest
+unfolding form_of cut keyword_in
 at_goal rest = refl
 
 -- the form that a line spells is the form that is read
-pub form_found : (shape : Shape) → IsShape shape → shape_of (spell shape) ≡ Some shape
+pub form_found : (form : LineForm) → IsWellFormed form → form_of (spell form) ≡ Some form
 unfolding spell
 form_found (a_role name) h = at_role name ∙ role_found name h
 form_found (an_edge senior junior) h = at_edge (senior ++ (32 ∷ junior)) ∙ edge_found senior junior h.0 h.1

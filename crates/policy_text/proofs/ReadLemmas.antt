@@ -11,7 +11,7 @@ use Rattle.policy_text.specs.declared.body.Body.{Body}
 use Rattle.policy_text.specs.declared.run_error.RunError.{RunError}
 use Rattle.policy_text.specs.declared.run_error.RunError.TheVariants.{BadLine, UnknownRole, Order, Cond, TooMany, Unended, Memory}
 use Rattle.policy_text.specs.Lines.{split, cut}
-use Rattle.policy_text.specs.Shapes.{Shape, IsShape, spell}
+use Rattle.policy_text.specs.LineForms.{LineForm, IsWellFormed, spell}
 use Rattle.policy_text.specs.declared.run.Run.{Run}
 use Rattle.policy_text.specs.Runs.{RunValue, nothing, plain_rule, plain_of, behind_edges, AddAll, IsReadTo, StandsFor, Reads}
 use Rattle.policy_text.proofs.ClashLemmas.{one_run, first_clash}
@@ -23,19 +23,19 @@ use Rattle.policy_text.proofs.UserLemmas.{map_long}
 use Rattle.policy_text.proofs.RunLemmas.{few_nothing}
 use Rattle.policy_text.proofs.SoleLemmas.{known_nothing, each_plain}
 
-add_append : (run mid last : RunValue) (xs ys : List Shape) → AddAll run xs mid → AddAll mid ys last → AddAll run (xs ++ ys) last
+add_append : (run mid last : RunValue) (xs ys : List LineForm) → AddAll run xs mid → AddAll mid ys last → AddAll run (xs ++ ys) last
 add_append run mid last [] ys a b = subst (λ (r : RunValue). AddAll r ys last) a b
 add_append run mid last (x ∷ xs) ys a b = (a.0, a.1, add_append a.0 mid last xs ys a.2 b)
 
-each_append : (xs ys : List Shape) → Each IsShape xs → Each IsShape ys → Each IsShape (xs ++ ys)
+each_append : (xs ys : List LineForm) → Each IsWellFormed xs → Each IsWellFormed ys → Each IsWellFormed (xs ++ ys)
 each_append [] ys a b = b
 each_append (x ∷ xs) ys a b = (a.0, each_append xs ys a.1 b)
 
-spell_append : (xs ys : List Shape) (left : List (List ℕ)) → map spell xs ++ (map spell ys ++ left) ≡ map spell (xs ++ ys) ++ left
+spell_append : (xs ys : List LineForm) (left : List (List ℕ)) → map spell xs ++ (map spell ys ++ left) ≡ map spell (xs ++ ys) ++ left
 spell_append [] ys left = refl
 spell_append (x ∷ xs) ys left = ap (λ t. spell x ∷ t) (spell_append xs ys left)
 
-length_append : (xs ys : List Shape) → length (xs ++ ys) ≡ length xs + length ys
+length_append : (xs ys : List LineForm) → length (xs ++ ys) ≡ length xs + length ys
 length_append [] ys = omega arith
 length_append (x ∷ xs) ys = let l = length_append xs ys in omega arith
 

@@ -13,8 +13,8 @@ use Rattle.arbac_policy.specs.declared.act.ActKind.TheVariants.{Assign, Weak, St
 use Rattle.policy_text.specs.declared.line.Keyword.{Keyword}
 use Rattle.policy_text.specs.declared.line.Keyword.TheVariants as k
 use Rattle.policy_text.specs.Lines.{cut}
-use Rattle.policy_text.specs.Shapes.{Shape, NamedRange, a_role, an_edge, an_assign, a_revoke, a_user, an_act, a_goal, IsName, IsNamedRange, IsShape, spell, spell_kind, spell_range, spell_names}
-use Rattle.policy_text.specs.Spelling.{◌>>=◌, only_if, name_in, text_in, number_in, opening_in, closed_by, or_open, closing_in, range_in, kind_in, role_in, edge_in, assign_in, revoke_in, user_in, words, in_first, names_behind, act_in, goal_in, keyword_in, shape_with, shape_by, shape_of}
+use Rattle.policy_text.specs.LineForms.{LineForm, NamedRange, a_role, an_edge, an_assign, a_revoke, a_user, an_act, a_goal, IsName, IsNamedRange, IsWellFormed, spell, spell_kind, spell_range, spell_names}
+use Rattle.policy_text.specs.Spelling.{◌>>=◌, only_if, name_in, text_in, number_in, opening_in, closed_by, or_open, closing_in, range_in, kind_in, role_in, edge_in, assign_in, revoke_in, user_in, words, in_first, names_behind, act_in, goal_in, keyword_in, form_with, form_by, form_of}
 use Rattle.policy_text.proofs.LineLemmas.{cut_joined}
 use Rattle.policy_text.proofs.WordLemmas.{name_is}
 use Rattle.policy_text.proofs.NumberLemmas.{number_is}
@@ -39,8 +39,8 @@ unfolding text_in
 a_text text found e = let o = only_is (is_utf8 text) text found e in (subst IsUtf8 o.1 (IsUtf8-from_is_utf8 text o.0), sym o.1)
 
 -- the form is one, and the line is its spelling
-abbrev Spells : List ℕ → Shape → Type 0
-Spells line shape = IsShape shape × (spell shape ≡ line)
+abbrev Spells : List ℕ → LineForm → Type 0
+Spells line form = IsWellFormed form × (spell form ≡ line)
 
 cut_is : (sign : ℕ) (text : List ℕ) (p : List ℕ × List ℕ) → cut sign text ≡ Some p → p.0 ++ (sign ∷ p.1) ≡ text
 cut_is sign text p e = sym (cut_joined sign text p.0 p.1 e)
@@ -112,41 +112,41 @@ ranged text range e =
     ∙ start_is text front.0 front.1 in
     subst P same ((l.0, h.0), spelled)
 
-role_is : (rest : List ℕ) (shape : Shape) → role_in rest ≡ Some shape → Spells (codes "role " ++ rest) shape
+role_is : (rest : List ℕ) (form : LineForm) → role_in rest ≡ Some form → Spells (codes "role " ++ rest) form
 unfolding role_in spell
-role_is rest shape e =
-    let name = step_of (name_in rest) _ shape e in
+role_is rest form e =
+    let name = step_of (name_in rest) _ form e in
     let n = named rest name.0 name.1 in
-    let same : a_role name.0 ≡ shape = cc in
+    let same : a_role name.0 ≡ form = cc in
     subst (Spells (codes "role " ++ rest)) same (n.0, ap (λ t. codes "role " ++ t) n.1)
 
-edge_is : (rest : List ℕ) (shape : Shape) → edge_in rest ≡ Some shape → Spells (codes "edge " ++ rest) shape
+edge_is : (rest : List ℕ) (form : LineForm) → edge_in rest ≡ Some form → Spells (codes "edge " ++ rest) form
 unfolding edge_in spell
-edge_is rest shape e =
-    let words = step_of (cut 32 rest) _ shape e in
-    let senior = step_of (name_in words.0.0) _ shape words.2 in
-    let junior = step_of (name_in words.0.1) _ shape senior.2 in
+edge_is rest form e =
+    let words = step_of (cut 32 rest) _ form e in
+    let senior = step_of (name_in words.0.0) _ form words.2 in
+    let junior = step_of (name_in words.0.1) _ form senior.2 in
     let s = named words.0.0 senior.0 senior.1 in
     let j = named words.0.1 junior.0 junior.1 in
-    let same = same_some (an_edge senior.0 junior.0) shape junior.2 in
+    let same = same_some (an_edge senior.0 junior.0) form junior.2 in
     subst (Spells (codes "edge " ++ rest)) same (
       (s.0, j.0),
       ap (λ t. codes "edge " ++ (t ++ (32 ∷ junior.0))) s.1 ∙ ap (λ t. codes "edge " ++ (words.0.0 ++ (32 ∷ t))) j.1
           ∙ ap (λ t. codes "edge " ++ t) (cut_is 32 rest words.0 words.1),
     )
 
-assign_is : (rest : List ℕ) (shape : Shape) → assign_in rest ≡ Some shape → Spells (codes "assign " ++ rest) shape
+assign_is : (rest : List ℕ) (form : LineForm) → assign_in rest ≡ Some form → Spells (codes "assign " ++ rest) form
 unfolding assign_in spell
-assign_is rest shape e =
-    let first = step_of (cut 32 rest) _ shape e in
-    let admin = step_of (name_in first.0.0) _ shape first.2 in
-    let second = step_of (cut 32 first.0.1) _ shape admin.2 in
-    let range = step_of (range_in second.0.0) _ shape second.2 in
-    let condition = step_of (text_in second.0.1) _ shape range.2 in
+assign_is rest form e =
+    let first = step_of (cut 32 rest) _ form e in
+    let admin = step_of (name_in first.0.0) _ form first.2 in
+    let second = step_of (cut 32 first.0.1) _ form admin.2 in
+    let range = step_of (range_in second.0.0) _ form second.2 in
+    let condition = step_of (text_in second.0.1) _ form range.2 in
     let a = named first.0.0 admin.0 admin.1 in
     let r = ranged second.0.0 range.0 range.1 in
     let c = a_text second.0.1 condition.0 condition.1 in
-    let same = same_some (an_assign admin.0 range.0 condition.0) shape condition.2 in
+    let same = same_some (an_assign admin.0 range.0 condition.0) form condition.2 in
     subst (Spells (codes "assign " ++ rest)) same (
       (a.0, r.0, c.0),
       ap (λ t. codes "assign " ++ (t ++ (32 ∷ (spell_range range.0 ++ (32 ∷ condition.0))))) a.1
@@ -156,15 +156,15 @@ assign_is rest shape e =
           ∙ ap (λ t. codes "assign " ++ t) (cut_is 32 rest first.0 first.1),
     )
 
-revoke_is : (rest : List ℕ) (shape : Shape) → revoke_in rest ≡ Some shape → Spells (codes "revoke " ++ rest) shape
+revoke_is : (rest : List ℕ) (form : LineForm) → revoke_in rest ≡ Some form → Spells (codes "revoke " ++ rest) form
 unfolding revoke_in spell
-revoke_is rest shape e =
-    let first = step_of (cut 32 rest) _ shape e in
-    let admin = step_of (name_in first.0.0) _ shape first.2 in
-    let range = step_of (range_in first.0.1) _ shape admin.2 in
+revoke_is rest form e =
+    let first = step_of (cut 32 rest) _ form e in
+    let admin = step_of (name_in first.0.0) _ form first.2 in
+    let range = step_of (range_in first.0.1) _ form admin.2 in
     let a = named first.0.0 admin.0 admin.1 in
     let r = ranged first.0.1 range.0 range.1 in
-    let same = same_some (a_revoke admin.0 range.0) shape range.2 in
+    let same = same_some (a_revoke admin.0 range.0) form range.2 in
     subst (Spells (codes "revoke " ++ rest)) same (
       (a.0, r.0),
       ap (λ t. codes "revoke " ++ (t ++ (32 ∷ spell_range range.0))) a.1 ∙ ap (λ t. codes "revoke " ++ (first.0.0 ++ (32 ∷ t))) r.1
@@ -206,12 +206,12 @@ names_are before (word ∷ more) names e h =
     by_name true t e later = let r = later e t in (r.0, sym (append_assoc before (word ∷ []) more) ∙ r.1)
     by_name false t e later = absurd (cc)
 
-user_is : (rest : List ℕ) (shape : Shape) → user_in rest ≡ Some shape → Spells (codes "user " ++ rest) shape
+user_is : (rest : List ℕ) (form : LineForm) → user_in rest ≡ Some form → Spells (codes "user " ++ rest) form
 unfolding user_in spell
-user_is rest shape e =
-    let names = step_of (names_behind [] (words rest)) _ shape e in
+user_is rest form e =
+    let names = step_of (names_behind [] (words rest)) _ form e in
     let n = names_are [] (words rest) names.0 names.1 tt in
-    let same : a_user names.0 ≡ shape = cc in
+    let same : a_user names.0 ≡ form = cc in
     subst (Spells (codes "user " ++ rest)) same (n.0, ap (λ t. codes "user" ++ spell_names t) (sym n.1) ∙ ap (λ t. codes "user" ++ t) (words_spelled rest))
 
 -- a word is what is found by it
@@ -231,20 +231,20 @@ kind_is word kind e =
     (λ f. pick word (codes "weak") Weak kind _ spell_kind refl f
     (λ g. pick word (codes "strong") Strong kind _ spell_kind refl g (λ h. absurd (cc))))
 
-act_is : (rest : List ℕ) (shape : Shape) → act_in rest ≡ Some shape → Spells (codes "act " ++ rest) shape
+act_is : (rest : List ℕ) (form : LineForm) → act_in rest ≡ Some form → Spells (codes "act " ++ rest) form
 unfolding act_in spell
-act_is rest shape e =
-    let first = step_of (cut 32 rest) _ shape e in
-    let kind = step_of (kind_in first.0.0) _ shape first.2 in
-    let second = step_of (cut 32 first.0.1) _ shape kind.2 in
-    let admin = step_of (number_in second.0.0) _ shape second.2 in
-    let third = step_of (cut 32 second.0.1) _ shape admin.2 in
-    let target = step_of (number_in third.0.0) _ shape third.2 in
-    let role = step_of (name_in third.0.1) _ shape target.2 in
+act_is rest form e =
+    let first = step_of (cut 32 rest) _ form e in
+    let kind = step_of (kind_in first.0.0) _ form first.2 in
+    let second = step_of (cut 32 first.0.1) _ form kind.2 in
+    let admin = step_of (number_in second.0.0) _ form second.2 in
+    let third = step_of (cut 32 second.0.1) _ form admin.2 in
+    let target = step_of (number_in third.0.0) _ form third.2 in
+    let role = step_of (name_in third.0.1) _ form target.2 in
     let a = number_is second.0.0 admin.0 admin.1 in
     let t = number_is third.0.0 target.0 target.1 in
     let r = named third.0.1 role.0 role.1 in
-    let same = same_some (an_act kind.0 admin.0 target.0 role.0) shape role.2 in
+    let same = same_some (an_act kind.0 admin.0 target.0 role.0) form role.2 in
     subst (Spells (codes "act " ++ rest)) same (
       (a.0, t.0, r.0),
       ap (λ x. codes "act " ++ (x ++ (32 ∷ (decimal admin.0 ++ (32 ∷ (decimal target.0 ++ (32 ∷ role.0))))))) (sym (kind_is first.0.0 kind.0 kind.1))
@@ -256,12 +256,12 @@ act_is rest shape e =
           ∙ ap (λ x. codes "act " ++ x) (cut_is 32 rest first.0 first.1),
     )
 
-goal_is : (rest : List ℕ) (shape : Shape) → goal_in rest ≡ Some shape → Spells (codes "goal " ++ rest) shape
+goal_is : (rest : List ℕ) (form : LineForm) → goal_in rest ≡ Some form → Spells (codes "goal " ++ rest) form
 unfolding goal_in spell
-goal_is rest shape e =
-    let condition = step_of (text_in rest) _ shape e in
+goal_is rest form e =
+    let condition = step_of (text_in rest) _ form e in
     let c = a_text rest condition.0 condition.1 in
-    let same : a_goal condition.0 ≡ shape = cc in
+    let same : a_goal condition.0 ≡ form = cc in
     subst (Spells (codes "goal " ++ rest)) same (c.0, ap (λ t. codes "goal " ++ t) c.1)
 
 abbrev keyword_text : Keyword → List ℕ
@@ -285,34 +285,34 @@ keyword_is word keyword e =
     (λ e. pick word (codes "goal") k.Goal keyword _ keyword_text refl e (λ e. absurd (cc))))))))
 
 -- a line with a keyword
-with_keyword : (keyword : Keyword) (rest : List ℕ) (shape : Shape) → shape_with (Some keyword) rest ≡ Some shape → Spells (keyword_text keyword ++ (32 ∷ rest)) shape
-with_keyword k.Role rest shape e = role_is rest shape e
-with_keyword k.Edge rest shape e = edge_is rest shape e
-with_keyword k.Assign rest shape e = assign_is rest shape e
-with_keyword k.Revoke rest shape e = revoke_is rest shape e
-with_keyword k.User rest shape e = user_is rest shape e
-with_keyword k.Act rest shape e = act_is rest shape e
-with_keyword k.Goal rest shape e = goal_is rest shape e
+with_keyword : (keyword : Keyword) (rest : List ℕ) (form : LineForm) → form_with (Some keyword) rest ≡ Some form → Spells (keyword_text keyword ++ (32 ∷ rest)) form
+with_keyword k.Role rest form e = role_is rest form e
+with_keyword k.Edge rest form e = edge_is rest form e
+with_keyword k.Assign rest form e = assign_is rest form e
+with_keyword k.Revoke rest form e = revoke_is rest form e
+with_keyword k.User rest form e = user_is rest form e
+with_keyword k.Act rest form e = act_is rest form e
+with_keyword k.Goal rest form e = goal_is rest form e
 
-nobody_is : (line : List ℕ) (shape : Shape) → only_if (bytes_eq line (codes "user")) (a_user []) ≡ Some shape → Spells line shape
+nobody_is : (line : List ℕ) (form : LineForm) → only_if (bytes_eq line (codes "user")) (a_user []) ≡ Some form → Spells line form
 unfolding spell
-nobody_is line shape e =
-    let o = only_is (bytes_eq line (codes "user")) (a_user []) shape e in
+nobody_is line form e =
+    let o = only_is (bytes_eq line (codes "user")) (a_user []) form e in
     subst (Spells line) o.1 (tt, sym ((bytes_eq-Decides line (codes "user")).0 o.0))
 
 -- what is read as a form is a line that the form spells
-pub form_is : (line : List ℕ) (shape : Shape) → shape_of line ≡ Some shape → IsShape shape × (spell shape ≡ line)
-unfolding shape_of
-form_is line shape e = by_cut (cut 32 line) refl e
+pub form_is : (line : List ℕ) (form : LineForm) → form_of line ≡ Some form → IsWellFormed form × (spell form ≡ line)
+unfolding form_of
+form_is line form e = by_cut (cut 32 line) refl e
   where
-    by_keyword : (word rest : List ℕ) (o : Option Keyword) → keyword_in word ≡ o → shape_with o rest ≡ Some shape → Spells (word ++ (32 ∷ rest)) shape
+    by_keyword : (word rest : List ℕ) (o : Option Keyword) → keyword_in word ≡ o → form_with o rest ≡ Some form → Spells (word ++ (32 ∷ rest)) form
     by_keyword word rest None f e = absurd (cc)
     by_keyword word rest (Some keyword) f e =
-        let P : List ℕ → Type 0 = λ t. Spells (t ++ (32 ∷ rest)) shape in
-        subst P (sym (keyword_is word keyword f)) (with_keyword keyword rest shape e)
+        let P : List ℕ → Type 0 = λ t. Spells (t ++ (32 ∷ rest)) form in
+        subst P (sym (keyword_is word keyword f)) (with_keyword keyword rest form e)
 
-    by_cut : (o : Option (List ℕ × List ℕ)) → cut 32 line ≡ o → shape_by line o ≡ Some shape → Spells line shape
-    by_cut None c e = nobody_is line shape e
+    by_cut : (o : Option (List ℕ × List ℕ)) → cut 32 line ≡ o → form_by line o ≡ Some form → Spells line form
+    by_cut None c e = nobody_is line form e
     by_cut (Some p) c e =
-        let P : List ℕ → Type 0 = λ t. Spells t shape in
+        let P : List ℕ → Type 0 = λ t. Spells t form in
         subst P (cut_is 32 line p c) (by_keyword p.0 p.1 (keyword_in p.0) refl e)

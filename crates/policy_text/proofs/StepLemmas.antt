@@ -10,8 +10,8 @@ use Rattle.role_order.specs.Refusals.{IsOrder}
 use Rattle.policy_text.specs.declared.run_error.RunError.{RunError}
 use Rattle.policy_text.specs.declared.run_error.RunError.TheVariants.{BadLine, UnknownRole, Order, Cond, TooMany, Unended, Memory}
 use Rattle.policy_text.specs.Lines.{split, cut, is_order_line}
-use Rattle.policy_text.specs.Shapes.{Shape, a_role, an_edge, an_assign, a_revoke, a_user, an_act, a_goal, IsShape, tells_order, condition_of, spell, spell_range}
-use Rattle.policy_text.specs.Spelling.{shape_of}
+use Rattle.policy_text.specs.LineForms.{LineForm, a_role, an_edge, an_assign, a_revoke, a_user, an_act, a_goal, IsWellFormed, tells_order, condition_of, spell, spell_range}
+use Rattle.policy_text.specs.Spelling.{form_of}
 use Rattle.policy_text.specs.Runs.{RunValue, MayStand, Adds, AddAll, behind_edges}
 use Rattle.policy_text.specs.Faults.{IsPlaced, IsLineFault, IsPastOrder, EndsOrder}
 use Rattle.policy_text.specs.Steps.{IsFormFault, AddsLine, Passes, StopsAt, Told, GoesOn, HasNoEnd, EndsWith, IsBodyFault}
@@ -20,7 +20,7 @@ use Rattle.policy_text.proofs.FormLemmas.{form_found}
 use Rattle.policy_text.proofs.SpellLemmas.{form_is}
 
 -- the first word of a line tells whether it is one of the role order
-pub order_line_is : (shape : Shape) → is_order_line (spell shape) ≡ tells_order shape
+pub order_line_is : (form : LineForm) → is_order_line (spell form) ≡ tells_order form
 unfolding is_order_line spell cut
 order_line_is (a_role name) = refl
 order_line_is (an_edge senior junior) = refl
@@ -31,15 +31,15 @@ order_line_is (a_user (name ∷ names)) = refl
 order_line_is (an_act kind admin target role) = refl
 order_line_is (a_goal condition) = refl
 
-pub tells_of : (line : List ℕ) (shape : Shape) → shape_of line ≡ Some shape → is_order_line line ≡ tells_order shape
-tells_of line shape e = ap is_order_line (sym (form_is line shape e).1) ∙ order_line_is shape
+pub tells_of : (line : List ℕ) (form : LineForm) → form_of line ≡ Some form → is_order_line line ≡ tells_order form
+tells_of line form e = ap is_order_line (sym (form_is line form e).1) ∙ order_line_is form
 
 -- a condition is no longer than its line
 behind_long : (xs ys : List ℕ) → length ys ≤ length (xs ++ ys)
 behind_long [] ys = omega arith
 behind_long (x ∷ xs) ys = let l = behind_long xs ys in omega arith
 
-spelled_long : (shape : Shape) → length (condition_of shape) ≤ length (spell shape)
+spelled_long : (form : LineForm) → length (condition_of form) ≤ length (spell form)
 unfolding spell
 spelled_long (a_role name) = omega arith
 spelled_long (an_edge senior junior) = omega arith
@@ -56,46 +56,46 @@ spelled_long (a_user names) = omega arith
 spelled_long (an_act kind admin target role) = omega arith
 spelled_long (a_goal condition) = behind_long (codes "goal ") condition
 
-pub condition_short : (line : List ℕ) (shape : Shape) → shape_of line ≡ Some shape → length (condition_of shape) ≤ length line
-condition_short line shape e = subst (λ (t : List ℕ). length (condition_of shape) ≤ length t) (form_is line shape e).1 (spelled_long shape)
+pub condition_short : (line : List ℕ) (form : LineForm) → form_of line ≡ Some form → length (condition_of form) ≤ length line
+condition_short line form e = subst (λ (t : List ℕ). length (condition_of form) ≤ length t) (form_is line form e).1 (spelled_long form)
 
-end_has_none : shape_of (codes "end") ≡ None
-unfolding shape_of cut
+end_has_none : form_of (codes "end") ≡ None
+unfolding form_of cut
 end_has_none = refl
 
-same_form : (line : List ℕ) (shape other : Shape) → shape_of line ≡ Some shape → IsShape other → spell other ≡ line → other ≡ shape
-same_form line shape other e formed spelled = let f : shape_of line ≡ Some other = ap shape_of (sym spelled) ∙ form_found other formed in cc
+same_form : (line : List ℕ) (form other : LineForm) → form_of line ≡ Some form → IsWellFormed other → spell other ≡ line → other ≡ form
+same_form line form other e formed spelled = let f : form_of line ≡ Some other = ap form_of (sym spelled) ∙ form_found other formed in cc
 
-pub no_end : (line : List ℕ) (shape : Shape) → shape_of line ≡ Some shape → line ≡ codes "end" → ⊥
-no_end line shape e is = let f : shape_of line ≡ None = ap shape_of is ∙ end_has_none in absurd (cc)
+pub no_end : (line : List ℕ) (form : LineForm) → form_of line ≡ Some form → line ≡ codes "end" → ⊥
+no_end line form e is = let f : form_of line ≡ None = ap form_of is ∙ end_has_none in absurd (cc)
 
-placed : (run : RunValue) (line : List ℕ) (shape : Shape) → shape_of line ≡ Some shape → MayStand run shape → IsPlaced run line shape
-placed run line shape e place = let f = form_is line shape e in record { formed = f.0; spelled = f.1; place = place }
+placed : (run : RunValue) (line : List ℕ) (form : LineForm) → form_of line ≡ Some form → MayStand run form → IsPlaced run line form
+placed run line form e place = let f = form_is line form e in record { formed = f.0; spelled = f.1; place = place }
 
 -- a form's fault is its line's
-pub line_fault : (run : RunValue) (line : List ℕ) (shape : Shape) (number : ℕ) (e : RunError) → shape_of line ≡ Some shape → IsFormFault run shape number e → IsLineFault run line number e
-line_fault run line shape number (BadLine at) s f =
-    (f.0, (λ other p. f.1 (subst (MayStand run) (same_form line shape other s p.formed p.spelled) p.place)), λ is. absurd (no_end line shape s is))
-line_fault run line shape number (TooMany at) s f = (f.0, shape, placed run line shape s f.1, f.2)
-line_fault run line shape number (UnknownRole at) s f = (f.0, shape, placed run line shape s f.1, f.2, f.3)
-line_fault run line shape number (Cond at error) s f = (f.0, shape, placed run line shape s f.1, f.2, f.3, f.4)
-line_fault run line shape number (Order error) s f = f
-line_fault run line shape number Unended s f = f
-line_fault run line shape number Memory s f = tt
+pub line_fault : (run : RunValue) (line : List ℕ) (form : LineForm) (number : ℕ) (e : RunError) → form_of line ≡ Some form → IsFormFault run form number e → IsLineFault run line number e
+line_fault run line form number (BadLine at) s f =
+    (f.0, (λ other p. f.1 (subst (MayStand run) (same_form line form other s p.formed p.spelled) p.place)), λ is. absurd (no_end line form s is))
+line_fault run line form number (TooMany at) s f = (f.0, form, placed run line form s f.1, f.2)
+line_fault run line form number (UnknownRole at) s f = (f.0, form, placed run line form s f.1, f.2, f.3)
+line_fault run line form number (Cond at error) s f = (f.0, form, placed run line form s f.1, f.2, f.3, f.4)
+line_fault run line form number (Order error) s f = f
+line_fault run line form number Unended s f = f
+line_fault run line form number Memory s f = tt
 
-pub line_faults : (run : RunValue) (line : List ℕ) (shape : Shape) (number : ℕ) (r : Result (Unit {0}) RunError) → shape_of line ≡ Some shape → IfErr r (IsFormFault run shape number) → IfErr r (IsLineFault run line number)
-line_faults run line shape number (Ok u) s f = tt
-line_faults run line shape number (Err e) s f = line_fault run line shape number e s f
+pub line_faults : (run : RunValue) (line : List ℕ) (form : LineForm) (number : ℕ) (r : Result (Unit {0}) RunError) → form_of line ≡ Some form → IfErr r (IsFormFault run form number) → IfErr r (IsLineFault run line number)
+line_faults run line form number (Ok u) s f = tt
+line_faults run line form number (Err e) s f = line_fault run line form number e s f
 
 -- a line without a form is at fault
-pub formless : (run : RunValue) (line : List ℕ) (number : ℕ) → shape_of line ≡ None → (line ≡ codes "end" → length run.goal ≡ 0) → IsLineFault run line number (BadLine number)
+pub formless : (run : RunValue) (line : List ℕ) (number : ℕ) → form_of line ≡ None → (line ≡ codes "end" → length run.goal ≡ 0) → IsLineFault run line number (BadLine number)
 formless run line number n end =
-    (refl, (λ other p. let f : shape_of line ≡ Some other = ap shape_of (sym p.spelled) ∙ form_found other p.formed in absurd (cc)), end)
+    (refl, (λ other p. let f : form_of line ≡ Some other = ap form_of (sym p.spelled) ∙ form_found other p.formed in absurd (cc)), end)
 
 -- what a form adds, its line adds
-pub line_adds : (run next : RunValue) (line : List ℕ) (shape : Shape) (r : Result (Unit {0}) RunError) → shape_of line ≡ Some shape → OnOk r (Adds run shape next) → OnOk r (AddsLine run line next)
-line_adds run next line shape (Ok u) s a = let f = form_is line shape s in record { shape = shape; formed = f.0; spelled = f.1; adds = a }
-line_adds run next line shape (Err e) s a = tt
+pub line_adds : (run next : RunValue) (line : List ℕ) (form : LineForm) (r : Result (Unit {0}) RunError) → form_of line ≡ Some form → OnOk r (Adds run form next) → OnOk r (AddsLine run line next)
+line_adds run next line form (Ok u) s a = let f = form_is line form s in record { form = form; formed = f.0; spelled = f.1; adds = a }
+line_adds run next line form (Err e) s a = tt
 
 pub ends_none : (bytes : List ℕ) → cut 10 bytes ≡ None → EndsOrder (split bytes).0
 ends_none bytes e = subst EndsOrder (sym (ap (λ (s : List (List ℕ) × List ℕ). s.0) (split_none bytes e))) tt
@@ -107,17 +107,17 @@ pub begins_line : (bytes line rest : List ℕ) → cut 10 bytes ≡ Some (line, 
 begins_line bytes line rest e h = subst EndsOrder (ap (λ (s : List (List ℕ) × List ℕ). s.0) (split_first bytes line rest e)) h
 
 -- lines one by one
-pub add_one_more : (run mid next : RunValue) (lines : List Shape) (shape : Shape) → AddAll run lines mid → Adds mid shape next → AddAll run (lines ++ shape ∷ []) next
-add_one_more run mid next [] shape all more = (next, subst (λ (r : RunValue). Adds r shape next) all more, refl)
-add_one_more run mid next (line ∷ lines) shape all more = (all.0, all.1, add_one_more all.0 mid next lines shape all.2 more)
+pub add_one_more : (run mid next : RunValue) (lines : List LineForm) (form : LineForm) → AddAll run lines mid → Adds mid form next → AddAll run (lines ++ form ∷ []) next
+add_one_more run mid next [] form all more = (next, subst (λ (r : RunValue). Adds r form next) all more, refl)
+add_one_more run mid next (line ∷ lines) form all more = (all.0, all.1, add_one_more all.0 mid next lines form all.2 more)
 
-each_one_more : (lines : List Shape) (shape : Shape) → Each IsShape lines → IsShape shape → Each IsShape (lines ++ shape ∷ [])
-each_one_more [] shape each formed = (formed, tt)
-each_one_more (line ∷ lines) shape each formed = (each.0, each_one_more lines shape each.1 formed)
+each_one_more : (lines : List LineForm) (form : LineForm) → Each IsWellFormed lines → IsWellFormed form → Each IsWellFormed (lines ++ form ∷ [])
+each_one_more [] form each formed = (formed, tt)
+each_one_more (line ∷ lines) form each formed = (each.0, each_one_more lines form each.1 formed)
 
-spell_one_more : (lines : List Shape) (shape : Shape) (left : List (List ℕ)) → map spell (lines ++ shape ∷ []) ++ left ≡ map spell lines ++ (spell shape ∷ left)
-spell_one_more [] shape left = refl
-spell_one_more (line ∷ lines) shape left = ap (λ t. spell line ∷ t) (spell_one_more lines shape left)
+spell_one_more : (lines : List LineForm) (form : LineForm) (left : List (List ℕ)) → map spell (lines ++ form ∷ []) ++ left ≡ map spell lines ++ (spell form ∷ left)
+spell_one_more [] form left = refl
+spell_one_more (line ∷ lines) form left = ap (λ t. spell line ∷ t) (spell_one_more lines form left)
 
 pub passes_none : (run : RunValue) (text : List ℕ) (number : ℕ) → Passes run text number run text number
 passes_none run text number = record { lines = []; formed = tt; text_is = refl; added = refl; number_is = omega arith }
@@ -125,16 +125,16 @@ passes_none run text number = record { lines = []; formed = tt; text_is = refl; 
 pub passes_more : (run mid next : RunValue) (text rest line later : List ℕ) (number at : ℕ) → Passes run text number mid rest at → cut 10 rest ≡ Some (line, later) → AddsLine mid line next
     → Passes run text number next later (at + 1)
 passes_more run mid next text rest line later number at p c a = record {
-  lines = p.lines ++ a.shape ∷ [];
-  formed = each_one_more p.lines a.shape p.formed a.formed;
+  lines = p.lines ++ a.form ∷ [];
+  formed = each_one_more p.lines a.form p.formed a.formed;
   text_is = p.text_is ∙ ap (λ (s : List (List ℕ) × List ℕ). (map spell p.lines ++ s.0, s.1)) (split_first rest line later c)
       ∙ ap (λ (t : List ℕ). (map spell p.lines ++ (t ∷ (split later).0), (split later).1)) (sym a.spelled)
-      ∙ ap (λ (t : List (List ℕ)). (t, (split later).1)) (sym (spell_one_more p.lines a.shape (split later).0));
-  added = add_one_more run mid next p.lines a.shape p.added a.adds;
-  number_is = longer at number (length p.lines) (length (p.lines ++ a.shape ∷ [])) p.number_is (length_more p.lines a.shape);
+      ∙ ap (λ (t : List (List ℕ)). (t, (split later).1)) (sym (spell_one_more p.lines a.form (split later).0));
+  added = add_one_more run mid next p.lines a.form p.added a.adds;
+  number_is = longer at number (length p.lines) (length (p.lines ++ a.form ∷ [])) p.number_is (length_more p.lines a.form);
 }
   where
-    length_more : (xs : List Shape) (x : Shape) → length (xs ++ x ∷ []) ≡ length xs + 1
+    length_more : (xs : List LineForm) (x : LineForm) → length (xs ++ x ∷ []) ≡ length xs + 1
     length_more [] x = refl
     length_more (y ∷ ys) x = let l = length_more ys x in omega arith
 
@@ -201,21 +201,21 @@ zero_both a b e = (omega arith, omega arith)
 
 -- behind a line that is none of the role order's, a later section has begun
 pub begun : (run next : RunValue) (line : List ℕ) → AddsLine run line next → (is_order_line line ≡ true → behind_edges run ≡ 0 → ⊥) → behind_edges next ≡ 0 → ⊥
-begun run next line a late = by_shape a.shape (ap is_order_line (sym a.spelled) ∙ order_line_is a.shape) a.adds
+begun run next line a late = by_form a.form (ap is_order_line (sym a.spelled) ∙ order_line_is a.form) a.adds
   where
     at : RunValue → Type 0
     at r = behind_edges r ≡ 0 → ⊥
 
-    by_shape : (shape : Shape) → is_order_line line ≡ tells_order shape → Adds run shape next → behind_edges next ≡ 0 → ⊥
-    by_shape (a_role name) t a = absurd (late t (zero_both (length run.edges) (behind_edges run) a.place).1)
-    by_shape (an_edge senior junior) t a = absurd (late t a.place.0)
-    by_shape (an_assign admin range condition) t a = subst at (sym a.gains.4) (λ e. longer_by_one run.assign a.gains.0 _ e)
-    by_shape (a_revoke admin range) t a = subst at (sym a.gains.3) (λ e. longer_by_one run.revoke a.gains.0 _ (zero_both (length run.assign) _ e).1)
-    by_shape (a_user names) t a = subst at (sym a.gains.2) (λ e. longer_by_one run.start a.gains.0 _ (zero_both (length run.revoke) _ (zero_both (length run.assign) _ e).1).1)
-    by_shape (an_act kind admin target role) t a =
-        subst at (sym a.gains.5) (λ e. longer_by_one run.acts a.gains.0 _ (zero_both (length run.start) _ (zero_both (length run.revoke) _ (zero_both (length run.assign) _ e).1).1).1)
-    by_shape (a_goal condition) t a =
-        subst at (sym a.gains.2) (λ e. last run.goal a.gains.0 (zero_both (length run.acts) _ (zero_both (length run.start) _ (zero_both (length run.revoke) _ (zero_both (length run.assign) _ e).1).1).1).1)
+    by_form : (form : LineForm) → is_order_line line ≡ tells_order form → Adds run form next → behind_edges next ≡ 0 → ⊥
+    by_form (a_role name) t a = absurd (late t (zero_both (length run.edges) (behind_edges run) a.place).1)
+    by_form (an_edge senior junior) t a = absurd (late t a.place.0)
+    by_form (an_assign admin range condition) t a = subst at (sym a.extends.4) (λ e. longer_by_one run.assign a.extends.0 _ e)
+    by_form (a_revoke admin range) t a = subst at (sym a.extends.3) (λ e. longer_by_one run.revoke a.extends.0 _ (zero_both (length run.assign) _ e).1)
+    by_form (a_user names) t a = subst at (sym a.extends.2) (λ e. longer_by_one run.start a.extends.0 _ (zero_both (length run.revoke) _ (zero_both (length run.assign) _ e).1).1)
+    by_form (an_act kind admin target role) t a =
+        subst at (sym a.extends.5) (λ e. longer_by_one run.acts a.extends.0 _ (zero_both (length run.start) _ (zero_both (length run.revoke) _ (zero_both (length run.assign) _ e).1).1).1)
+    by_form (a_goal condition) t a =
+        subst at (sym a.extends.2) (λ e. last run.goal a.extends.0 (zero_both (length run.acts) _ (zero_both (length run.start) _ (zero_both (length run.revoke) _ (zero_both (length run.assign) _ e).1).1).1).1)
       where
         last : {A : Type 0} (xs : List A) (x : A) → length (xs ++ x ∷ []) ≡ 0 → ⊥
         last [] x e = omega arith

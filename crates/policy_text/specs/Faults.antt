@@ -12,7 +12,7 @@ use Rattle.policy_text.specs.declared.run.Run.{Run}
 use Rattle.policy_text.specs.declared.run_error.RunError.{RunError}
 use Rattle.policy_text.specs.declared.run_error.RunError.TheVariants.{BadLine, UnknownRole, Order, Cond, TooMany, Unended, Memory}
 use Rattle.policy_text.specs.Lines.{split, is_order_line}
-use Rattle.policy_text.specs.Shapes.{Shape, NamedRange, a_role, an_edge, an_assign, a_revoke, a_user, an_act, a_goal, IsShape, spell}
+use Rattle.policy_text.specs.LineForms.{LineForm, NamedRange, a_role, an_edge, an_assign, a_revoke, a_user, an_act, a_goal, IsWellFormed, spell}
 use Rattle.policy_text.specs.Runs.{RunValue, behind_edges, MayStand, HasRoom, IsReadTo}
 
 -- the name is that of no role
@@ -23,7 +23,7 @@ abbrev pub HasUnknownEnd : List (List ℕ) → NamedRange → Type 0
 HasUnknownEnd names range = IsUnknown names range.low ⊎ IsUnknown names range.high
 
 -- the line has a name that is that of no role, outside its condition
-abbrev pub HasUnknown : List (List ℕ) → Shape → Type 0
+abbrev pub HasUnknown : List (List ℕ) → LineForm → Type 0
 HasUnknown names (a_role name) = ⊥
 HasUnknown names (an_edge senior junior) = IsUnknown names senior ⊎ IsUnknown names junior
 HasUnknown names (an_assign admin range condition) = IsUnknown names admin ⊎ HasUnknownEnd names range
@@ -33,7 +33,7 @@ HasUnknown names (an_act kind admin target role) = IsUnknown names role
 HasUnknown names (a_goal condition) = ⊥
 
 -- the line has a condition, and this is its text's first fault
-abbrev pub HasCondFault : List (List ℕ) → Shape → CondError → Type 0
+abbrev pub HasCondFault : List (List ℕ) → LineForm → CondError → Type 0
 HasCondFault names (an_assign admin range condition) error = IsRefusedCond names condition error × (¬ (error ≡ conditions.Memory))
 HasCondFault names (a_goal condition) error = IsRefusedCond names condition error × (¬ (error ≡ conditions.Memory))
 HasCondFault names (a_role name) error = ⊥
@@ -43,19 +43,19 @@ HasCondFault names (a_user words) error = ⊥
 HasCondFault names (an_act kind admin target role) error = ⊥
 
 -- the line has a form, and stands in its place
-pub record IsPlaced (run : RunValue) (line : List ℕ) (shape : Shape) : Type 0 where
-  pub formed : IsShape shape
-  pub spelled : spell shape ≡ line
-  pub place : MayStand run shape
+pub record IsPlaced (run : RunValue) (line : List ℕ) (form : LineForm) : Type 0 where
+  pub formed : IsWellFormed form
+  pub spelled : spell form ≡ line
+  pub place : MayStand run form
 
 -- behind what the run says so far the line is at fault: it has no form or is out of place, and is no `end` behind a goal;
 -- or its kind is used up; or it has an unknown name; or its condition has a fault
 abbrev pub IsLineFault : RunValue → List ℕ → ℕ → RunError → Type 0
-IsLineFault run line number (BadLine at) = (at ≡ number) × ((shape : Shape) → ¬ IsPlaced run line shape) × (line ≡ codes "end" → length run.goal ≡ 0)
-IsLineFault run line number (TooMany at) = (at ≡ number) × (shape : Shape) × IsPlaced run line shape × (¬ HasRoom run shape)
-IsLineFault run line number (UnknownRole at) = (at ≡ number) × (shape : Shape) × IsPlaced run line shape × HasRoom run shape × HasUnknown run.names shape
+IsLineFault run line number (BadLine at) = (at ≡ number) × ((form : LineForm) → ¬ IsPlaced run line form) × (line ≡ codes "end" → length run.goal ≡ 0)
+IsLineFault run line number (TooMany at) = (at ≡ number) × (form : LineForm) × IsPlaced run line form × (¬ HasRoom run form)
+IsLineFault run line number (UnknownRole at) = (at ≡ number) × (form : LineForm) × IsPlaced run line form × HasRoom run form × HasUnknown run.names form
 IsLineFault run line number (Cond at error) =
-    (at ≡ number) × (shape : Shape) × IsPlaced run line shape × HasRoom run shape × (¬ HasUnknown run.names shape) × HasCondFault run.names shape error
+    (at ≡ number) × (form : LineForm) × IsPlaced run line form × HasRoom run form × (¬ HasUnknown run.names form) × HasCondFault run.names form error
 IsLineFault run line number (Order error) = ⊥
 IsLineFault run line number Unended = ⊥
 IsLineFault run line number Memory = Unit {0}

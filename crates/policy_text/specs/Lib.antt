@@ -1,5 +1,6 @@
 pub mod Lines
-pub mod Shapes
+pub mod LineForms
+pub mod Limits
 pub mod Runs
 pub mod Faults
 pub mod Spelling

@@ -17,7 +17,7 @@ use Rattle.policy_text.specs.declared.run.Run.{Run}
 use Rattle.policy_text.specs.declared.run_error.RunError.{RunError}
 use Rattle.policy_text.specs.declared.run_error.RunError.TheVariants.{Memory}
 use Rattle.policy_text.specs.Lines.{split}
-use Rattle.policy_text.specs.Shapes.{Shape, NamedRange, a_role, an_edge, an_assign, a_revoke, a_user, an_act, a_goal, IsShape, spell}
+use Rattle.policy_text.specs.LineForms.{LineForm, NamedRange, a_role, an_edge, an_assign, a_revoke, a_user, an_act, a_goal, IsWellFormed, spell}
 
 -- a rule of can_assign, its condition as plain data
 pub record AssignRule : Type 0 where
@@ -79,7 +79,7 @@ abbrev pub behind_roles : RunValue → ℕ
 behind_roles run = length run.edges + behind_edges run
 
 -- the line is in its place: no line of a later section stands before it, and edges stand behind roles
-abbrev pub MayStand : RunValue → Shape → Type 0
+abbrev pub MayStand : RunValue → LineForm → Type 0
 MayStand run (a_role name) = behind_roles run ≡ 0
 MayStand run (an_edge senior junior) = (behind_edges run ≡ 0) × (1 ≤ length run.names)
 MayStand run (an_assign admin range condition) = behind_assigns run ≡ 0
@@ -89,7 +89,7 @@ MayStand run (an_act kind admin target role) = behind_acts run ≡ 0
 MayStand run (a_goal condition) = Unit {0}
 
 -- there is room for one more line of the kind
-abbrev pub HasRoom : RunValue → Shape → Type 0
+abbrev pub HasRoom : RunValue → LineForm → Type 0
 HasRoom run (a_role name) = length run.names < MOST_ROLES
 HasRoom run (an_edge senior junior) = length run.edges < MOST_EDGES
 HasRoom run (an_assign admin range condition) = length run.assign < MOST_RULES
@@ -115,8 +115,8 @@ pub record NamesRange (names : List (List ℕ)) (written : NamedRange) (range : 
   pub high_open : written.high_open ≡ range.high_open
 
 -- the text is a condition within the limits, and stands for the term
-abbrev pub Says : List (List ℕ) → List ℕ → Term → Type 0
-Says names text term = Means names text term × IsFaultless names text
+abbrev pub ReadsAs : List (List ℕ) → List ℕ → Term → Type 0
+ReadsAs names text term = Means names text term × IsFaultless names text
 
 -- the set of these roles
 abbrev pub set_of : List ℕ → List ℕ
@@ -129,37 +129,37 @@ pub record NamesSet (names : List (List ℕ)) (words : List (List ℕ)) (set : L
   pub set_is : set ≡ set_of roles
 
 -- with what the line says, the run becomes the next
-abbrev pub Gains : RunValue → Shape → RunValue → Type 0
-Gains run (a_role name) next = next ≡ record run { names = run.names ++ name ∷ [] }
-Gains run (an_edge senior junior) next =
+abbrev pub Extends : RunValue → LineForm → RunValue → Type 0
+Extends run (a_role name) next = next ≡ record run { names = run.names ++ name ∷ [] }
+Extends run (an_edge senior junior) next =
     (edge : ℕ × ℕ) × Names run.names senior edge.0 × Names run.names junior edge.1 × (next ≡ record run { edges = run.edges ++ edge ∷ [] })
-Gains run (an_assign admin range condition) next =
-    (rule : AssignRule) × Names run.names admin rule.admin × NamesRange run.names range rule.range × Says run.names condition rule.cond
+Extends run (an_assign admin range condition) next =
+    (rule : AssignRule) × Names run.names admin rule.admin × NamesRange run.names range rule.range × ReadsAs run.names condition rule.cond
     × (next ≡ record run { assign = run.assign ++ rule ∷ [] })
-Gains run (a_revoke admin range) next =
+Extends run (a_revoke admin range) next =
     (rule : CanRevoke) × Names run.names admin rule.admin × NamesRange run.names range rule.range × (next ≡ record run { revoke = run.revoke ++ rule ∷ [] })
-Gains run (a_user names) next =
+Extends run (a_user names) next =
     (set : List ℕ) × NamesSet run.names names set × (next ≡ record run { start = run.start ++ set ∷ [] })
-Gains run (an_act kind admin target role) next =
+Extends run (an_act kind admin target role) next =
     (act : Act) × (act.kind ≡ kind) × (act.admin ≡ admin) × (act.target ≡ target) × Names run.names role act.role × (next ≡ record run { acts = run.acts ++ act ∷ [] })
-Gains run (a_goal condition) next = (term : Term) × Says run.names condition term × (next ≡ record run { goal = run.goal ++ term ∷ [] })
+Extends run (a_goal condition) next = (term : Term) × ReadsAs run.names condition term × (next ≡ record run { goal = run.goal ++ term ∷ [] })
 
 -- the line is right behind what the run says so far, and makes it the next
-pub record Adds (run : RunValue) (line : Shape) (next : RunValue) : Type 0 where
+pub record Adds (run : RunValue) (line : LineForm) (next : RunValue) : Type 0 where
   pub place : MayStand run line
   pub room : HasRoom run line
-  pub gains : Gains run line next
+  pub extends : Extends run line next
 
 -- the lines are right one behind another, and make the run the last
-abbrev pub AddAll : RunValue → List Shape → RunValue → Type 0
+abbrev pub AddAll : RunValue → List LineForm → RunValue → Type 0
 AddAll run [] last = last ≡ run
 AddAll run (line ∷ lines) last = (next : RunValue) × Adds run line next × AddAll next lines last
 
 -- behind the first line, right lines say so much of a run; the lines `left` are left, the first of which has this number,
 -- and then a part of a line
 pub record IsReadTo (bytes : List ℕ) (run : RunValue) (number : ℕ) (left : List (List ℕ)) (part : List ℕ) : Type 0 where
-  pub lines : List Shape
-  pub formed : Each IsShape lines
+  pub lines : List LineForm
+  pub formed : Each IsWellFormed lines
   pub text : split bytes ≡ (codes "run 1" ∷ (map spell lines ++ left), part)
   pub added : AddAll nothing lines run
   pub number_is : number ≡ 2 + length lines

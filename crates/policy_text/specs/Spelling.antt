@@ -10,7 +10,7 @@ use Rattle.arbac_policy.specs.declared.act.ActKind.TheVariants.{Assign, Weak, St
 use Rattle.policy_text.specs.declared.line.Keyword.{Keyword}
 use Rattle.policy_text.specs.declared.line.Keyword.TheVariants as k
 use Rattle.policy_text.specs.Lines.{cut}
-use Rattle.policy_text.specs.Shapes.{Shape, NamedRange, a_role, an_edge, an_assign, a_revoke, a_user, an_act, a_goal}
+use Rattle.policy_text.specs.LineForms.{LineForm, NamedRange, a_role, an_edge, an_assign, a_revoke, a_user, an_act, a_goal}
 
 infixl 10 ◌>>=◌
 abbrev pub ◌>>=◌ : {A B : Type 0} → Option A → (A → Option B) → Option B
@@ -63,19 +63,19 @@ unfoldable pub kind_in : List ℕ → Option ActKind
 kind_in word =
     if bytes_eq word (codes "assign") then Some Assign else if bytes_eq word (codes "weak") then Some Weak else if bytes_eq word (codes "strong") then Some Strong else None
 
-unfoldable pub role_in : List ℕ → Option Shape
+unfoldable pub role_in : List ℕ → Option LineForm
 role_in rest = do
   name ← name_in rest
   Some (a_role name)
 
-unfoldable pub edge_in : List ℕ → Option Shape
+unfoldable pub edge_in : List ℕ → Option LineForm
 edge_in rest = do
   words ← cut 32 rest
   senior ← name_in words.0
   junior ← name_in words.1
   Some (an_edge senior junior)
 
-unfoldable pub assign_in : List ℕ → Option Shape
+unfoldable pub assign_in : List ℕ → Option LineForm
 assign_in rest = do
   first ← cut 32 rest
   admin ← name_in first.0
@@ -84,7 +84,7 @@ assign_in rest = do
   condition ← text_in second.1
   Some (an_assign admin range condition)
 
-unfoldable pub revoke_in : List ℕ → Option Shape
+unfoldable pub revoke_in : List ℕ → Option LineForm
 revoke_in rest = do
   words ← cut 32 rest
   admin ← name_in words.0
@@ -105,12 +105,12 @@ unfoldable pub names_behind : List (List ℕ) → List (List ℕ) → Option (Li
 names_behind before [] = Some before
 names_behind before (word ∷ more) = if is_name word then names_behind (before ++ word ∷ []) more else None
 
-unfoldable pub user_in : List ℕ → Option Shape
+unfoldable pub user_in : List ℕ → Option LineForm
 user_in rest = do
   names ← names_behind [] (words rest)
   Some (a_user names)
 
-unfoldable pub act_in : List ℕ → Option Shape
+unfoldable pub act_in : List ℕ → Option LineForm
 act_in rest = do
   first ← cut 32 rest
   kind ← kind_in first.0
@@ -121,7 +121,7 @@ act_in rest = do
   role ← name_in third.1
   Some (an_act kind admin target role)
 
-unfoldable pub goal_in : List ℕ → Option Shape
+unfoldable pub goal_in : List ℕ → Option LineForm
 goal_in rest = do
   condition ← text_in rest
   Some (a_goal condition)
@@ -134,20 +134,20 @@ keyword_in word =
     else if bytes_eq word (codes "goal") then Some k.Goal else None
 
 -- the form of a line with this keyword, and this rest behind the space
-abbrev pub shape_with : Option Keyword → List ℕ → Option Shape
-shape_with (Some k.Role) rest = role_in rest
-shape_with (Some k.Edge) rest = edge_in rest
-shape_with (Some k.Assign) rest = assign_in rest
-shape_with (Some k.Revoke) rest = revoke_in rest
-shape_with (Some k.User) rest = user_in rest
-shape_with (Some k.Act) rest = act_in rest
-shape_with (Some k.Goal) rest = goal_in rest
-shape_with None rest = None
+abbrev pub form_with : Option Keyword → List ℕ → Option LineForm
+form_with (Some k.Role) rest = role_in rest
+form_with (Some k.Edge) rest = edge_in rest
+form_with (Some k.Assign) rest = assign_in rest
+form_with (Some k.Revoke) rest = revoke_in rest
+form_with (Some k.User) rest = user_in rest
+form_with (Some k.Act) rest = act_in rest
+form_with (Some k.Goal) rest = goal_in rest
+form_with None rest = None
 
-abbrev pub shape_by : List ℕ → Option (List ℕ × List ℕ) → Option Shape
-shape_by line None = only_if (bytes_eq line (codes "user")) (a_user [])
-shape_by line (Some found) = shape_with (keyword_in found.0) found.1
+abbrev pub form_by : List ℕ → Option (List ℕ × List ℕ) → Option LineForm
+form_by line None = only_if (bytes_eq line (codes "user")) (a_user [])
+form_by line (Some found) = form_with (keyword_in found.0) found.1
 
 -- the form of the line
-unfoldable pub shape_of : List ℕ → Option Shape
-shape_of line = shape_by line (cut 32 line)
+unfoldable pub form_of : List ℕ → Option LineForm
+form_of line = form_by line (cut 32 line)

@@ -13,7 +13,7 @@ use Rattle.policy_text.specs.declared.body.Body.{Body}
 use Rattle.policy_text.specs.declared.run_error.RunError.{RunError}
 use Rattle.policy_text.specs.declared.run_error.RunError.TheVariants.{BadLine, UnknownRole, Order, Cond, TooMany, Unended, Memory}
 use Rattle.policy_text.specs.Lines.{split}
-use Rattle.policy_text.specs.Shapes.{Shape, IsShape, spell}
+use Rattle.policy_text.specs.LineForms.{LineForm, IsWellFormed, spell}
 use Rattle.policy_text.specs.Runs.{RunValue, nothing, plain_rule, MayStand, HasRoom, Adds, AddAll}
 use Rattle.policy_text.specs.Faults.{HasUnknown, HasCondFault, IsLineFault, IsPastOrder}
 
@@ -42,14 +42,14 @@ abbrev pub order_view : Graph → RunValue
 order_view order = record nothing { names = order.names; edges = order.edges }
 
 -- behind the run the form is at fault so
-abbrev pub IsFormFault : RunValue → Shape → ℕ → RunError → Type 0
-IsFormFault run shape number (BadLine at) = (at ≡ number) × (¬ MayStand run shape)
-IsFormFault run shape number (TooMany at) = (at ≡ number) × MayStand run shape × (¬ HasRoom run shape)
-IsFormFault run shape number (UnknownRole at) = (at ≡ number) × MayStand run shape × HasRoom run shape × HasUnknown run.names shape
-IsFormFault run shape number (Cond at error) = (at ≡ number) × MayStand run shape × HasRoom run shape × (¬ HasUnknown run.names shape) × HasCondFault run.names shape error
-IsFormFault run shape number (Order error) = ⊥
-IsFormFault run shape number Unended = ⊥
-IsFormFault run shape number Memory = Unit {0}
+abbrev pub IsFormFault : RunValue → LineForm → ℕ → RunError → Type 0
+IsFormFault run form number (BadLine at) = (at ≡ number) × (¬ MayStand run form)
+IsFormFault run form number (TooMany at) = (at ≡ number) × MayStand run form × (¬ HasRoom run form)
+IsFormFault run form number (UnknownRole at) = (at ≡ number) × MayStand run form × HasRoom run form × HasUnknown run.names form
+IsFormFault run form number (Cond at error) = (at ≡ number) × MayStand run form × HasRoom run form × (¬ HasUnknown run.names form) × HasCondFault run.names form error
+IsFormFault run form number (Order error) = ⊥
+IsFormFault run form number Unended = ⊥
+IsFormFault run form number Memory = Unit {0}
 
 -- the text of a condition is at fault so
 abbrev pub IsTextFault : List (List ℕ) → List ℕ → ℕ → RunError → Type 0
@@ -73,15 +73,15 @@ IsOrderTold names edges Unended = ⊥
 
 -- the line has a form, which makes the run the next
 pub record AddsLine (run : RunValue) (line : List ℕ) (next : RunValue) : Type 0 where
-  pub shape : Shape
-  pub formed : IsShape shape
-  pub spelled : spell shape ≡ line
-  pub adds : Adds run shape next
+  pub form : LineForm
+  pub formed : IsWellFormed form
+  pub spelled : spell form ≡ line
+  pub adds : Adds run form next
 
 -- right lines lead from the run at the text, whose first line has the number, to the next run at the rest
 pub record Passes (run : RunValue) (text : List ℕ) (number : ℕ) (next : RunValue) (rest : List ℕ) (after : ℕ) : Type 0 where
-  pub lines : List Shape
-  pub formed : Each IsShape lines
+  pub lines : List LineForm
+  pub formed : Each IsWellFormed lines
   pub text_is : split text ≡ (map spell lines ++ (split rest).0, (split rest).1)
   pub added : AddAll run lines next
   pub number_is : after ≡ number + length lines

@@ -3,10 +3,10 @@
 ghost use Rattle.std.specs.Prelude.{ℕ, ◌≡◌, ◌<◌, ◌≤◌, ◌^◌, ◌↔◌, ◌+◌, ◌&&◌, ◌==◌, not, true, codes, IsTrue, length, map, IfOk, IfErr, IfSome, IfNone, OnOk};
 ghost use Rattle.std.specs.Str.{bytes_eq};
 ghost use Rattle.arbac_policy.specs.Truth.{term_of};
-ghost use Rattle.policy_text.specs.Views.{range_view, shape_view};
+ghost use Rattle.policy_text.specs.Views.{range_view, form_of_line};
 ghost use Rattle.policy_text.specs.Lines.{split, is_order_line};
-ghost use Rattle.policy_text.specs.Shapes.{an_assign, a_revoke, a_user, an_act, a_goal, tells_order, condition_of};
-ghost use Rattle.policy_text.specs.Runs.{Adds, Says, NamesRange, NamesSet, behind_edges, behind_assigns, behind_revokes, behind_users, behind_acts};
+ghost use Rattle.policy_text.specs.LineForms.{an_assign, a_revoke, a_user, an_act, a_goal, tells_order, condition_of};
+ghost use Rattle.policy_text.specs.Runs.{Adds, ReadsAs, NamesRange, NamesSet, behind_edges, behind_assigns, behind_revokes, behind_users, behind_acts};
 ghost use Rattle.policy_text.specs.Faults.{HasUnknownEnd, IsUnknown, IsLineFault, EndsOrder};
 ghost use Rattle.policy_text.specs.Steps.{body_view, run_view, order_view, IsFormFault, IsTextFault, AddsLine, EndsWith, IsBodyFault};
 ghost use Rattle.role_order.specs.Lists.{Some_of};
@@ -53,7 +53,7 @@ fn range_of(order: &Order, named: &NamedRange) -> Option<Range>
 /// The condition of a line.
 fn read_cond(alloc: Global, order: &Order, text: &str, line: u32) -> Result<Cond, RunError>
     requires { length text.now < 2 ^ 32 }
-    ensures says { IfOk result (λ cond. Says order.now.names text.now (term_of cond)) }
+    ensures says { IfOk result (λ cond. ReadsAs order.now.names text.now (term_of cond)) }
     ensures fault { IfErr result (IsTextFault order.now.names text.now line) }
 {
     match parse_cond(alloc, order, text) {
@@ -234,11 +234,11 @@ impl Body {
         form: &Line,
         line: u32,
     ) -> Result<(), RunError>
-        requires short { length (condition_of (shape_view form.now)) < 2 ^ 32 }
+        requires short { length (condition_of (form_of_line form.now)) < 2 ^ 32 }
         requires order { IsOrder order.now.names order.now.edges }
-        requires late { tells_order (shape_view form.now) ≡ true → ¬ (behind_edges (body_view self.old) ≡ 0) }
-        ensures added { OnOk result (Adds (run_view order.now self.old) (shape_view form.now) (run_view order.now self.new)) }
-        ensures fault { IfErr result (IsFormFault (run_view order.now self.old) (shape_view form.now) line) }
+        requires late { tells_order (form_of_line form.now) ≡ true → ¬ (behind_edges (body_view self.old) ≡ 0) }
+        ensures added { OnOk result (Adds (run_view order.now self.old) (form_of_line form.now) (run_view order.now self.new)) }
+        ensures fault { IfErr result (IsFormFault (run_view order.now self.old) (form_of_line form.now) line) }
     {
         match form {
             Line::Role(_) => Err(RunError::BadLine { line }),

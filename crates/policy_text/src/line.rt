@@ -4,9 +4,9 @@ ghost use Rattle.std.specs.Prelude.{ℕ, ◌≡◌, ◌<◌, ◌^◌, [], IfOk, 
 ghost use Rattle.std.specs.Char.{is_ascii_digit};
 ghost use Rattle.std.specs.List.{list_all};
 ghost use Rattle.std.specs.Option.{option_map};
-ghost use Rattle.policy_text.specs.Shapes.{NamedRange as Named, IsNamedRange, spell_range};
-ghost use Rattle.policy_text.specs.Spelling.{name_in, text_in, is_numeral as numeral, number_in, opening_in, closing_in, closed_by, range_in, kind_in, role_in, edge_in, assign_in, revoke_in, user_in, names_behind, words, act_in, goal_in, keyword_in, shape_of};
-ghost use Rattle.policy_text.specs.Views.{range_view, shape_view};
+ghost use Rattle.policy_text.specs.LineForms.{NamedRange as Named, IsNamedRange, spell_range};
+ghost use Rattle.policy_text.specs.Spelling.{name_in, text_in, is_numeral as numeral, number_in, opening_in, closing_in, closed_by, range_in, kind_in, role_in, edge_in, assign_in, revoke_in, user_in, names_behind, words, act_in, goal_in, keyword_in, form_of};
+ghost use Rattle.policy_text.specs.Views.{range_view, form_of_line};
 
 use crate::lines::{cut, is};
 use arbac_policy::ActKind;
@@ -192,7 +192,7 @@ fn kind_of(word: &[u8]) -> Option<ActKind>
 
 #[tactic(auto, unfolding(crate::specs::Spelling::role_in))]
 fn role_line(rest: &[u8]) -> Option<Line>
-    ensures { option_map shape_view result ≡ role_in rest.now }
+    ensures { option_map form_of_line result ≡ role_in rest.now }
 {
     let name = name_of(rest)?;
     Some(Line::Role(name))
@@ -200,7 +200,7 @@ fn role_line(rest: &[u8]) -> Option<Line>
 
 #[tactic(auto, unfolding(crate::specs::Spelling::edge_in))]
 fn edge_line(rest: &[u8]) -> Option<Line>
-    ensures { option_map shape_view result ≡ edge_in rest.now }
+    ensures { option_map form_of_line result ≡ edge_in rest.now }
 {
     let (senior, junior) = cut(rest, b' ')?;
     let senior = name_of(senior)?;
@@ -210,7 +210,7 @@ fn edge_line(rest: &[u8]) -> Option<Line>
 
 #[tactic(auto, unfolding(crate::specs::Spelling::assign_in))]
 fn assign_line(rest: &[u8]) -> Option<Line>
-    ensures { option_map shape_view result ≡ assign_in rest.now }
+    ensures { option_map form_of_line result ≡ assign_in rest.now }
 {
     let (admin, rest) = cut(rest, b' ')?;
     let admin = name_of(admin)?;
@@ -226,7 +226,7 @@ fn assign_line(rest: &[u8]) -> Option<Line>
 
 #[tactic(auto, unfolding(crate::specs::Spelling::revoke_in))]
 fn revoke_line(rest: &[u8]) -> Option<Line>
-    ensures { option_map shape_view result ≡ revoke_in rest.now }
+    ensures { option_map form_of_line result ≡ revoke_in rest.now }
 {
     let (admin, range) = cut(rest, b' ')?;
     let admin = name_of(admin)?;
@@ -236,7 +236,7 @@ fn revoke_line(rest: &[u8]) -> Option<Line>
 
 #[tactic(auto, unfolding(crate::specs::Spelling::act_in))]
 fn act_line(rest: &[u8]) -> Option<Line>
-    ensures { option_map shape_view result ≡ act_in rest.now }
+    ensures { option_map form_of_line result ≡ act_in rest.now }
 {
     let (kind, rest) = cut(rest, b' ')?;
     let kind = kind_of(kind)?;
@@ -255,7 +255,7 @@ fn act_line(rest: &[u8]) -> Option<Line>
 
 #[tactic(auto, unfolding(crate::specs::Spelling::goal_in))]
 fn goal_line(rest: &[u8]) -> Option<Line>
-    ensures { option_map shape_view result ≡ goal_in rest.now }
+    ensures { option_map form_of_line result ≡ goal_in rest.now }
 {
     let condition = text_of(rest)?;
     Some(Line::Goal(condition))
@@ -284,7 +284,7 @@ fn names_of<'a>(alloc: Global, text: &'a [u8]) -> Result<Option<Vec<&'a str>>, A
 
 #[tactic(auto, unfolding(crate::specs::Spelling::user_in))]
 fn user_line(alloc: Global, rest: &[u8]) -> Result<Option<Line>, AllocError>
-    ensures { IfOk result (λ o. option_map shape_view o ≡ user_in rest.now) }
+    ensures { IfOk result (λ o. option_map form_of_line o ≡ user_in rest.now) }
 {
     match names_of(alloc, rest)? {
         Some(names) => Ok(Some(Line::User(names))),
@@ -316,9 +316,9 @@ fn keyword_of(word: &[u8]) -> Option<Keyword>
 }
 
 /// The line that the bytes spell, if they spell one.
-#[tactic(auto, unfolding(crate::specs::Spelling::shape_of))]
+#[tactic(auto, unfolding(crate::specs::Spelling::form_of))]
 pub fn read_line(alloc: Global, line: &[u8]) -> Result<Option<Line>, AllocError>
-    ensures { IfOk result (λ o. option_map shape_view o ≡ shape_of line.now) }
+    ensures { IfOk result (λ o. option_map form_of_line o ≡ form_of line.now) }
 {
     let Some((word, rest)) = cut(line, b' ') else {
         return Ok(if is(line, "user") {

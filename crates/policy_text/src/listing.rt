@@ -1,12 +1,10 @@
 //! The lines of a run text that tell the role order.
 
-ghost use Rattle.std.specs.Prelude.{ℕ, ◌≡◌, ◌<◌, ◌≤◌, ◌+◌, ◌^◌, true, false, Some, length, vec_len, position, IfOk, IfErr, IfSome, IfNone, OnOk};
-ghost use Rattle.std.specs.Str.{bytes_eq};
-ghost use Rattle.std.specs.String.{string_bytes};
-ghost use Rattle.role_order.specs.Names.{texts, place_of};
+ghost use Rattle.std.specs.Prelude.{ℕ, ◌≡◌, ◌<◌, ◌≤◌, ◌+◌, ◌^◌, true, false, Some, length, vec_len, IfOk, IfErr, IfSome, IfNone, OnOk};
+ghost use Rattle.role_order.specs.Names.{texts};
 ghost use Rattle.policy_text.specs.Lines.{cut as cut_at, split, is_order_line as is_of_order};
-ghost use Rattle.policy_text.specs.Shapes.{a_role, an_edge, tells_order};
-ghost use Rattle.policy_text.specs.Views.{shape_view};
+ghost use Rattle.policy_text.specs.LineForms.{a_role, an_edge, tells_order};
+ghost use Rattle.policy_text.specs.Views.{form_of_line};
 ghost use Rattle.policy_text.specs.Runs.{nothing, Adds};
 ghost use Rattle.policy_text.specs.Faults.{IsLineFault, EndsOrder};
 ghost use Rattle.policy_text.specs.Steps.{listing_view, IsFormFault, AddsLine, Passes, StopsAt, Told};
@@ -15,7 +13,7 @@ use crate::MOST_EDGES;
 use crate::line::{Line, read_line};
 use crate::lines::{cut, is_order_line};
 use crate::run_error::RunError;
-use role_order::MOST_ROLES;
+use role_order::{MOST_ROLES, place_in};
 use std::alloc::Global;
 
 /// The names of the roles and the edges, as far as they were read.
@@ -23,20 +21,6 @@ use std::alloc::Global;
 pub struct Listing {
     pub names: Vec<String>,
     pub edges: Vec<(u16, u16)>,
-}
-
-fn position_in(names: &[String], name: &str) -> Option<usize>
-    ensures { result ≡ position (λ other. bytes_eq (string_bytes other) name.now) names.now }
-{
-    names.iter().position(|other| other.as_str() == name)
-}
-
-/// The place of the name among the names.
-fn place_in(names: &[String], name: &str) -> Option<usize>
-    ensures within { IfSome result (λ at. at < length names.now) }
-    ensures place { result ≡ place_of (texts names.now) name.now }
-{
-    position_in(names, name)
 }
 
 impl Listing {
@@ -67,10 +51,10 @@ impl Listing {
         if self.edges.len() >= MOST_EDGES {
             return Err(RunError::TooMany { line });
         }
-        let Some(senior) = place_in(&self.names, senior) else {
+        let Some(senior) = place_in(&self.names, senior.as_bytes()) else {
             return Err(RunError::UnknownRole { line });
         };
-        let Some(junior) = place_in(&self.names, junior) else {
+        let Some(junior) = place_in(&self.names, junior.as_bytes()) else {
             return Err(RunError::UnknownRole { line });
         };
         self.edges.push((senior as u16, junior as u16))?;
@@ -79,9 +63,9 @@ impl Listing {
 
     fn add_form(&mut self, alloc: Global, form: &Line, number: u32) -> Result<(), RunError>
         requires few { length (texts self.old.names.items) ≤ MOST_ROLES }
-        requires kind { tells_order (shape_view form.now) ≡ true }
-        ensures added { OnOk result (Adds (listing_view self.old) (shape_view form.now) (listing_view self.new)) }
-        ensures fault { IfErr result (IsFormFault (listing_view self.old) (shape_view form.now) number) }
+        requires kind { tells_order (form_of_line form.now) ≡ true }
+        ensures added { OnOk result (Adds (listing_view self.old) (form_of_line form.now) (listing_view self.new)) }
+        ensures fault { IfErr result (IsFormFault (listing_view self.old) (form_of_line form.now) number) }
     {
         match form {
             Line::Role(name) => self.add_role(alloc, name, number),

@@ -5,6 +5,7 @@ ghost use Rattle.role_order.specs.Names.{texts};
 ghost use Rattle.role_order.specs.Refusals.{IsOrder};
 ghost use Rattle.arbac_policy.specs.Rules.{IsPolicy, AreCountable, policy_of as rules_of};
 ghost use Rattle.policy_text.specs.declared.run_error.RunError.{RunError};
+ghost use Rattle.policy_text.specs.Limits.{AreLimits};
 ghost use Rattle.policy_text.specs.Runs.{RunValue, StandsFor, Reads, plain_of, IsForUsers, KeepsLimits, AreKnownGoals};
 ghost use Rattle.policy_text.specs.Faults.{IsFirstFault, IsRefused, Tells};
 ghost use Rattle.policy_text.specs.Steps.{IsOrderTold, run_view};
@@ -76,7 +77,8 @@ fn run_of(alloc: Global, order: Order, body: Body) -> Run
     }
 }
 
-fn read(alloc: Global, bytes: &[u8]) -> Result<Run, RunError>
+/// The run of a text whose lines can be counted in 32 bits.
+fn read_short(alloc: Global, bytes: &[u8]) -> Result<Run, RunError>
     requires { length bytes.now < 2 ^ 32 }
     ensures found { IfOk result (λ run. StandsFor bytes.now (plain_of run)) }
     ensures users { IfOk result (λ run. IsForUsers run.policy) }
@@ -98,14 +100,26 @@ fn read(alloc: Global, bytes: &[u8]) -> Result<Run, RunError>
     Ok(run_of(alloc, order, body))
 }
 
+fn read(alloc: Global, bytes: &[u8]) -> Result<Run, RunError>
+    ensures found { IfOk result (λ run. StandsFor bytes.now (plain_of run)) }
+    ensures users { IfOk result (λ run. IsForUsers run.policy) }
+    ensures first { IfErr result (IsRefused bytes.now) }
+{
+    // Lines are counted in 32 bits.
+    if bytes.len() > u32::MAX as usize {
+        return Err(RunError::Memory);
+    }
+    read_short(alloc, bytes)
+}
+
 /// The run that the text stands for, or its first fault.
 ///
 /// Lines end in LF and stand in this order: `run 1`; `role NAME`; `edge SENIOR JUNIOR`;
 /// `assign ADMIN RANGE CONDITION`; `revoke ADMIN RANGE`; `user ROLE ROLE ..`;
 /// `act KIND ADMIN TARGET ROLE`, users by place from 0; `goal CONDITION`; `end`. Words are
 /// separated by one space. The form is this project's own.
+/// A text of 2^32 bytes or more is `Memory`, since lines are counted in 32 bits.
 pub fn read_run(alloc: Global, bytes: &[u8]) -> Result<Run, RunError>
-    requires { length bytes.now < 2 ^ 32 }
     // What is read is what the text stands for.
     ensures found { IfOk result (λ run. StandsFor bytes.now (plain_of run)) }
     // It has no rules for permissions and no exclusive pairs.
@@ -122,6 +136,8 @@ pub fn read_run(alloc: Global, bytes: &[u8]) -> Result<Run, RunError>
     ensures told { (fault : RunError) → IsFirstFault bytes.now fault → Tells result fault }
     // A text stands for one run at most.
     ensures one { (left right : RunValue) → StandsFor bytes.now left → StandsFor bytes.now right → left ≡ right }
+    // The limits by number.
+    ensures limits { AreLimits }
 {
     read(alloc, bytes)
 }

@@ -5,7 +5,6 @@ use arbac_policy::{Act, ActKind, CanRevoke, Cond};
 use cond_text::CondError;
 use role_order::{MOST_ROLES, OrderError, Range};
 use std::alloc::{AllocError, Global};
-use std::process::Abort;
 use std::test::Fail;
 
 const MIXED: &[u8] =
@@ -293,15 +292,10 @@ const KINDS: [(&[u8], &[u8], usize); 6] = [
     (b"run 1\nrole a\n", b"goal a\n", MOST_GOALS),
 ];
 
-fn result_of(rt: &impl Abort, alloc: Global, text: &[u8]) -> Result<Run, RunError> {
-    assert!(rt; text.len() < 1_000_000_000);
-    read_run(alloc, text)
-}
-
 #[test]
 fn a_right_text_is_read(rt: HostRuntime) -> Result<(), Fail> {
     for text in &RIGHT {
-        let read = result_of(&rt, rt.alloc(), text);
+        let read = read_run(rt.alloc(), text);
         assert_eq!(rt; read.err(), None, "{text:?}");
     }
     Ok(())
@@ -310,7 +304,7 @@ fn a_right_text_is_read(rt: HostRuntime) -> Result<(), Fail> {
 #[test]
 fn a_wrong_text_is_refused_with_its_first_fault(rt: HostRuntime) -> Result<(), Fail> {
     for (text, fault) in &WRONG {
-        let read = result_of(&rt, rt.alloc(), text);
+        let read = read_run(rt.alloc(), text);
         assert_eq!(rt; read.err(), Some(*fault), "{text:?}");
     }
     Ok(())
@@ -343,14 +337,10 @@ fn a_kind_of_line_is_used_up(rt: HostRuntime) -> Result<(), Fail> {
         let used_up = RunError::TooMany {
             line: (lines + most + 1) as u32,
         };
-        let read = result_of(&rt, alloc, &text).err();
+        let read = read_run(alloc, &text).err();
         assert_eq!(rt; read, if goal { Some(used_up) } else { None }, "{line:?}");
         let text = text_of(alloc, head, line, most + 1, b"goal (\nend\n")?;
-        assert_eq!(rt;
-            result_of(&rt, alloc, &text).err(),
-            Some(used_up),
-            "{line:?}"
-        );
+        assert_eq!(rt; read_run(alloc, &text).err(), Some(used_up), "{line:?}");
     }
     Ok(())
 }
@@ -362,10 +352,10 @@ fn the_251st_role_is_too_many(rt: HostRuntime) -> Result<(), Fail> {
     for role in 0..MOST_ROLES {
         text.extend_from_slice(format!(in alloc; "role r{role}\n")?.as_bytes())?;
     }
-    assert_eq!(rt; result_of(&rt, alloc, &text).err(), Some(RunError::Unended));
+    assert_eq!(rt; read_run(alloc, &text).err(), Some(RunError::Unended));
     text.extend_from_slice(b"role any\nrole \n")?;
     assert_eq!(rt;
-        result_of(&rt, alloc, &text).err(),
+        read_run(alloc, &text).err(),
         Some(RunError::TooMany { line: 252 })
     );
     Ok(())
@@ -373,7 +363,7 @@ fn the_251st_role_is_too_many(rt: HostRuntime) -> Result<(), Fail> {
 
 #[test]
 fn what_is_read_is_what_the_text_says(rt: HostRuntime) -> Result<(), Fail> {
-    let run = result_of(&rt, rt.alloc(), MIXED)?;
+    let run = read_run(rt.alloc(), MIXED)?;
     let order = run.policy.order();
     assert_eq!(rt; order.count(), 2);
     assert_eq!(rt; order.name(0), "adm");

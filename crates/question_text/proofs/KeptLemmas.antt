@@ -11,16 +11,17 @@ use Rattle.role_order.specs.Lists.{Each}
 use Rattle.role_order.specs.Names.{place_of}
 use Rattle.role_order.specs.Refusals.{IsOrder}
 use Rattle.arbac_policy.specs.Rules.{IsKnownPair}
-use Rattle.policy_text.specs.declared.TheConstants.{MOST_EDGES}
+use Rattle.policy_text.specs.declared.TheConstants.{MOST_EDGES, MOST_RULES}
 use Rattle.policy_text.proofs.OrderLemmas.{place_found}
 use Rattle.question_text.specs.declared.TheConstants.{MOST_PAIRS}
 use Rattle.question_text.specs.Outcomes.{Outcome}
 use Rattle.question_text.specs.Values.{QuestionValue}
 use Rattle.question_text.specs.Keys.{if_different, as_two_texts, of_kind}
 use Rattle.question_text.specs.Roles.{role_named, is_order, admin_roles, both_roles, an_edge, a_pair, is_mixed, unless_mixed, not_mixed, role_edges, exclusive_pairs, listed_roles}
-use Rattle.question_text.specs.Documents.{question, document}
-use Rattle.question_text.specs.Rules.{IsSet, IsPair, AreApart, KeepsRules}
-use Rattle.question_text.proofs.TableLaws.{found_at, passed, within, role_kept, entries_kept, set_kept, assign_rules_kept, revoke_rules_kept, assign_rules_apart, revoke_rules_apart, profiles_kept, goal_kept}
+use Rattle.question_text.specs.Tables.{is_mixed_rule}
+use Rattle.question_text.specs.Documents.{HeadValue, RolesValue, RulesValue, the_roles, the_rules, question_of, question, document}
+use Rattle.question_text.specs.Rules.{IsSet, IsPair, IsAssignRule, IsRevokeRule, AreApart, KeepsRules}
+use Rattle.question_text.proofs.TableLaws.{IsApart, found_at, passed, within, role_kept, entries_kept, set_kept, assign_rules_kept, revoke_rules_kept, assign_rules_apart, revoke_rules_apart, profiles_kept, goal_kept}
 use Rattle.question_text.proofs.OutcomeLemmas.{same_ok, no_ok_err}
 
 -- where no item passes the test, each fails it
@@ -46,7 +47,7 @@ apart_kept true admins path list h s = none_mixed admins path list h
 apart_kept false admins path list h s = absurd (cc)
 
 -- a list of pairs of roles that was read
-record IsListed (most : ℕ) (P : ℕ × ℕ → Type 0) (separate : Bool) (admins : List ℕ) (list : List (ℕ × ℕ)) : Type 0 where
+pub record IsListed (most : ℕ) (P : ℕ × ℕ → Type 0) (separate : Bool) (admins : List ℕ) (list : List (ℕ × ℕ)) : Type 0 where
   pub few : length list ≤ most
   pub each : Each P list
   pub apart : separate ≡ true → Each (λ roles. is_mixed admins roles ≡ false) list
@@ -68,7 +69,7 @@ order_kept names edges (inl h) = h.0
 order_kept names edges (inr h) = absurd (no_ok_err tt _ h.3)
 
 -- edges that were read
-record AreEdgesKept (separate : Bool) (admins : List ℕ) (names : List (List ℕ)) (edges : List (ℕ × ℕ)) : Type 0 where
+pub record AreEdgesKept (separate : Bool) (admins : List ℕ) (names : List (List ℕ)) (edges : List (ℕ × ℕ)) : Type 0 where
   pub order : IsOrder names edges
   pub few : length edges ≤ MOST_EDGES
   pub apart : separate ≡ true → Each (λ edge. is_mixed admins edge ≡ false) edges
@@ -128,62 +129,89 @@ each_known : (count : ℕ) (pairs : List (ℕ × ℕ)) → Each (IsPair count) p
 each_known count [] each = tt
 each_known count (pair ∷ pairs) each = (each.0.known, each_known count pairs each.1)
 
--- exclusive pairs that were read are known, and few
-pub pairs_known : (version : ℕ) (separate : Bool) (admins : List ℕ) (names : List (List ℕ)) (table : Members) (pairs : List (ℕ × ℕ)) → exclusive_pairs version separate admins names table (Ok pairs)
-    → Each (IsKnownPair (length names)) pairs × (length pairs ≤ MOST_PAIRS)
-pairs_known version separate admins names table pairs h =
-    let kept = exclusive_kept version separate admins names table pairs h in
-    (each_known (length names) pairs kept.each, kept.few)
+-- roles that were read, with their edges and pairs
+pub record AreRolesKept (separate : Bool) (roles : RolesValue) : Type 0 where
+  pub edges : AreEdgesKept separate roles.admins roles.names roles.edges
+  pub admins : IsSet (length roles.names) roles.admins
+  pub exclusive : IsListed MOST_PAIRS (IsPair (length roles.names)) separate roles.admins roles.exclusive
+  pub known : Each (IsKnownPair (length roles.names)) roles.exclusive
+
+pub the_roles_kept : (head : HeadValue) (table : Members) (roles : RolesValue) → the_roles head table (Ok roles) → AreRolesKept head.separate roles
+the_roles_kept head table roles (inl (fault, h, e)) = absurd (no_ok_err roles fault e)
+the_roles_kept head table roles (inr (names, n, inl (fault, h, e))) = absurd (no_ok_err roles fault e)
+the_roles_kept head table roles (inr (names, n, inr (admins, a, inl (fault, h, e)))) = absurd (no_ok_err roles fault e)
+the_roles_kept head table roles (inr (names, n, inr (admins, a, inr (edges, g, inl (fault, h, e))))) = absurd (no_ok_err roles fault e)
+the_roles_kept head table roles (inr (names, n, inr (admins, a, inr (edges, g, inr (exclusive, x, e))))) =
+    let parts : RolesValue = record { names = names; admins = admins; edges = edges; exclusive = exclusive } in
+    let pairs = exclusive_kept head.version head.separate admins names table exclusive x in
+    let kept : AreRolesKept head.separate parts = record {
+      edges = edges_kept head.separate admins names table edges g;
+      admins = admins_kept head.separate names table admins a;
+      exclusive = pairs;
+      known = each_known (length names) exclusive pairs.each;
+    } in
+    subst (AreRolesKept head.separate) (same_ok parts roles (sym e)) kept
+
+-- rules that were read
+pub record AreRulesKept (separate : Bool) (admins : List ℕ) (count : ℕ) (rules : RulesValue) : Type 0 where
+  pub assign : (length rules.assign ≤ MOST_RULES) × Each (IsAssignRule count) rules.assign
+  pub revoke : (length rules.revoke ≤ MOST_RULES) × Each (IsRevokeRule count) rules.revoke
+  pub assignp : (length rules.assignp ≤ MOST_RULES) × Each (IsAssignRule count) rules.assignp
+  pub revokep : (length rules.revokep ≤ MOST_RULES) × Each (IsRevokeRule count) rules.revokep
+  pub assign_apart : separate ≡ true → Each (IsApart admins) rules.assign
+  pub revoke_apart : separate ≡ true → Each (λ rule. is_mixed_rule admins rule.admin rule.range ≡ false) rules.revoke
+  pub assignp_apart : separate ≡ true → Each (IsApart admins) rules.assignp
+  pub revokep_apart : separate ≡ true → Each (λ rule. is_mixed_rule admins rule.admin rule.range ≡ false) rules.revokep
+
+pub the_rules_kept : (separate : Bool) (admins : List ℕ) (names : List (List ℕ)) (table : Members) (rules : RulesValue)
+    → the_rules separate admins names table (Ok rules) → AreRulesKept separate admins (length names) rules
+the_rules_kept separate admins names table rules (inl (fault, h, e)) = absurd (no_ok_err rules fault e)
+the_rules_kept separate admins names table rules (inr (assign, a, inl (fault, h, e))) = absurd (no_ok_err rules fault e)
+the_rules_kept separate admins names table rules (inr (assign, a, inr (revoke, r, inl (fault, h, e)))) = absurd (no_ok_err rules fault e)
+the_rules_kept separate admins names table rules (inr (assign, a, inr (revoke, r, inr (assignp, b, inl (fault, h, e))))) = absurd (no_ok_err rules fault e)
+the_rules_kept separate admins names table rules (inr (assign, a, inr (revoke, r, inr (assignp, b, inr (revokep, s, e))))) =
+    let parts : RulesValue = record { assign = assign; revoke = revoke; assignp = assignp; revokep = revokep } in
+    let kept : AreRulesKept separate admins (length names) parts = record {
+      assign = assign_rules_kept separate admins names table (codes "can_assign") assign a;
+      revoke = revoke_rules_kept separate admins names table (codes "can_revoke") revoke r;
+      assignp = assign_rules_kept separate admins names table (codes "can_assignp") assignp b;
+      revokep = revoke_rules_kept separate admins names table (codes "can_revokep") revokep s;
+      assign_apart = assign_rules_apart separate admins names table (codes "can_assign") assign a;
+      revoke_apart = revoke_rules_apart separate admins names table (codes "can_revoke") revoke r;
+      assignp_apart = assign_rules_apart separate admins names table (codes "can_assignp") assignp b;
+      revokep_apart = revoke_rules_apart separate admins names table (codes "can_revokep") revokep s;
+    } in
+    subst (AreRulesKept separate admins (length names)) (same_ok parts rules (sym e)) kept
 
 question_kept : (need_goal : Bool) (table : Members) (q : QuestionValue) → question need_goal table (Ok q) → KeepsRules q
 question_kept need table q (inl (fault, h, e)) = absurd (no_ok_err q fault e)
-question_kept need table q (inr (known, k, inl (fault, h, e))) = absurd (no_ok_err q fault e)
-question_kept need table q (inr (known, k, inr (version, v, inl (fault, h, e)))) = absurd (no_ok_err q fault e)
-question_kept need table q (inr (known, k, inr (version, v, inr (separate, s, inl (fault, h, e))))) = absurd (no_ok_err q fault e)
-question_kept need table q (inr (known, k, inr (version, v, inr (separate, s, inr (names, n, inl (fault, h, e)))))) = absurd (no_ok_err q fault e)
-question_kept need table q (inr (known, k, inr (version, v, inr (separate, s, inr (names, n, inr (admins, a, inl (fault, h, e))))))) = absurd (no_ok_err q fault e)
-question_kept need table q (inr (known, k, inr (version, v, inr (separate, s, inr (names, n, inr (admins, a, inr (edges, ed, inl (fault, h, e)))))))) = absurd (no_ok_err q fault e)
-question_kept need table q (inr (known, k, inr (version, v, inr (separate, s, inr (names, n, inr (admins, a, inr (edges, ed, inr (exclusive, ex, inl (fault, h, e))))))))) = absurd (no_ok_err q fault e)
-question_kept need table q (inr (known, k, inr (version, v, inr (separate, s, inr (names, n, inr (admins, a, inr (edges, ed, inr (exclusive, ex, inr (assign, ai, inl (fault, h, e)))))))))) = absurd (no_ok_err q fault e)
-question_kept need table q (inr (known, k, inr (version, v, inr (separate, s, inr (names, n, inr (admins, a, inr (edges, ed, inr (exclusive, ex, inr (assign, ai, inr (revoke, ri, inl (fault, h, e))))))))))) = absurd (no_ok_err q fault e)
-question_kept need table q (inr (known, k, inr (version, v, inr (separate, s, inr (names, n, inr (admins, a, inr (edges, ed, inr (exclusive, ex, inr (assign, ai, inr (revoke, ri, inr (assignp, ap', inl (fault, h, e)))))))))))) = absurd (no_ok_err q fault e)
-question_kept need table q (inr (known, k, inr (version, v, inr (separate, s, inr (names, n, inr (admins, a, inr (edges, ed, inr (exclusive, ex, inr (assign, ai, inr (revoke, ri, inr (assignp, ap', inr (revokep, rp, inl (fault, h, e))))))))))))) = absurd (no_ok_err q fault e)
-question_kept need table q (inr (known, k, inr (version, v, inr (separate, s, inr (names, n, inr (admins, a, inr (edges, ed, inr (exclusive, ex, inr (assign, ai, inr (revoke, ri, inr (assignp, ap', inr (revokep, rp, inr (profiles, p, inl (fault, h, e)))))))))))))) = absurd (no_ok_err q fault e)
-question_kept need table q (inr (known, k, inr (version, v, inr (separate, s, inr (names, n, inr (admins, a, inr (edges, ed, inr (exclusive, ex, inr (assign, ai, inr (revoke, ri, inr (assignp, ap', inr (revokep, rp, inr (profiles, p, inr (goal, g, e)))))))))))))) =
-    let edges_are = edges_kept separate admins names table edges ed in
-    let pairs_are = exclusive_kept version separate admins names table exclusive ex in
-    let goal_is = goal_kept need names table goal g in
-    let parts : QuestionValue = record {
-      separate = separate;
-      names = names;
-      admin_roles = admins;
-      edges = edges;
-      exclusive = exclusive;
-      assign = assign;
-      revoke = revoke;
-      assignp = assignp;
-      revokep = revokep;
-      profiles = profiles;
-      goal = goal;
-    } in
-    let apart : separate ≡ true → AreApart parts = λ is. record {
-      edges = edges_are.apart is;
-      exclusive = pairs_are.apart is;
-      assign = assign_rules_apart separate admins names table (codes "can_assign") assign ai is;
-      revoke = revoke_rules_apart separate admins names table (codes "can_revoke") revoke ri is;
-      assignp = assign_rules_apart separate admins names table (codes "can_assignp") assignp ap' is;
-      revokep = revoke_rules_apart separate admins names table (codes "can_revokep") revokep rp is;
+question_kept need table q (inr (head, hd, inl (fault, h, e))) = absurd (no_ok_err q fault e)
+question_kept need table q (inr (head, hd, inr (roles, ro, inl (fault, h, e)))) = absurd (no_ok_err q fault e)
+question_kept need table q (inr (head, hd, inr (roles, ro, inr (rules, ru, inl (fault, h, e))))) = absurd (no_ok_err q fault e)
+question_kept need table q (inr (head, hd, inr (roles, ro, inr (rules, ru, inr (profiles, p, inl (fault, h, e)))))) = absurd (no_ok_err q fault e)
+question_kept need table q (inr (head, hd, inr (roles, ro, inr (rules, ru, inr (profiles, p, inr (goal, g, e)))))) =
+    let roles_are = the_roles_kept head table roles ro in
+    let rules_are = the_rules_kept head.separate roles.admins roles.names table rules ru in
+    let goal_is = goal_kept need roles.names table goal g in
+    let parts : QuestionValue = question_of head roles rules profiles goal in
+    let apart : head.separate ≡ true → AreApart parts = λ is. record {
+      edges = roles_are.edges.apart is;
+      exclusive = roles_are.exclusive.apart is;
+      assign = rules_are.assign_apart is;
+      revoke = rules_are.revoke_apart is;
+      assignp = rules_are.assignp_apart is;
+      revokep = rules_are.revokep_apart is;
     } in
     let all : KeepsRules parts = record {
-      order = edges_are.order;
-      edges = edges_are.few;
-      admins = admins_kept separate names table admins a;
-      exclusive = (pairs_are.few, pairs_are.each);
-      assign = assign_rules_kept separate admins names table (codes "can_assign") assign ai;
-      revoke = revoke_rules_kept separate admins names table (codes "can_revoke") revoke ri;
-      assignp = assign_rules_kept separate admins names table (codes "can_assignp") assignp ap';
-      revokep = revoke_rules_kept separate admins names table (codes "can_revokep") revokep rp;
-      profiles = profiles_kept names table profiles p;
+      order = roles_are.edges.order;
+      edges = roles_are.edges.few;
+      admins = roles_are.admins;
+      exclusive = (roles_are.exclusive.few, roles_are.exclusive.each);
+      assign = rules_are.assign;
+      revoke = rules_are.revoke;
+      assignp = rules_are.assignp;
+      revokep = rules_are.revokep;
+      profiles = profiles_kept roles.names table profiles p;
       goal = (goal_is.few, goal_is.conditions);
       narrow = goal_is.narrow;
       apart = apart;

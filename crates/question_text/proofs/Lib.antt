@@ -2,10 +2,9 @@ pub mod OutcomeLemmas
 pub mod KeyLemmas
 pub mod RoleLemmas
 pub mod TableLemmas
-pub mod RuleLemmas
+pub mod SeenLemmas
 pub mod GoalLemmas
 pub mod TableLaws
 pub mod SoleLemmas
-pub mod GroupLemmas
 pub mod KeptLemmas
 pub mod ReadLemmas

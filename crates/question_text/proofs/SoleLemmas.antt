@@ -11,7 +11,8 @@ use Rattle.cond_text.specs.Words.{words, placed_words}
 use Rattle.cond_text.proofs.CompleteLemmas.{one_term}
 use Rattle.cond_text.proofs.FaultLemmas.{one_fault}
 use Rattle.cond_text.proofs.JudgeLemmas.{clash}
-use Rattle.policy_text.specs.Shapes.{NamedRange, IsNamedRange, spell_range}
+use Rattle.policy_text.specs.LineForms.{NamedRange, IsNamedRange, spell_range}
+use Rattle.policy_text.specs.Runs.{AssignRule}
 use Rattle.policy_text.specs.Spelling.{range_in}
 use Rattle.policy_text.specs.declared.TheConstants.{MOST_EDGES, MOST_RULES, MOST_GOALS}
 use Rattle.policy_text.proofs.FormLemmas.{range_found}
@@ -20,8 +21,8 @@ use Rattle.question_text.specs.declared.TheConstants.{MOST_PAIRS, MOST_PROFILES}
 use Rattle.question_text.specs.Outcomes.{no_order, no_cond, Outcome}
 use Rattle.question_text.specs.Keys.{toml_of, as_list, as_two_texts, as_two_different_texts, as_version, as_most, as_filled_list, must_be, required, may_be, optional, of_kind, unless_unknown, first_unknown, knows_only, at_most, entries, key_of}
 use Rattle.question_text.specs.Roles.{a_text, found, role_named, a_role, role_set, is_order, role_names, admin_list, admin_roles, both_roles, an_edge, a_pair, is_mixed, unless_mixed, not_mixed, listed_roles, role_edges, exclusive_pairs}
-use Rattle.question_text.specs.Tables.{a_condition, a_named_range, a_range, the_admin, the_condition, the_range, not_mixed_rule, not_wide, an_assign_rule, a_revoke_rule, tables, assign_rules, revoke_rules, a_profile, profiles, a_goal_condition, not_wide_goal, a_goal, may_be_goal, the_goal}
-use Rattle.question_text.specs.Documents.{known_keys, question, if_toml, document}
+use Rattle.question_text.specs.Tables.{a_condition, a_named_range, a_range, the_admin, the_condition, the_range, not_mixed_rule, not_wide, assign_parts, assign_tests, an_assign_rule, revoke_parts, a_revoke_rule, tables, assign_rules, revoke_rules, a_profile, profiles, a_goal_condition, not_wide_goal, a_goal, may_be_goal, the_goal}
+use Rattle.question_text.specs.Documents.{known_keys, HeadValue, the_head, the_roles, the_rules, question, if_toml, document}
 use Rattle.question_text.proofs.OutcomeLemmas.{Sole, sole_gives, sole_fails, sole_fails_if, sole_chain, sole_entries, sole_of_kind}
 
 -- keys
@@ -163,23 +164,34 @@ sole_the_range names rule path =
     sole_chain (required as_str rule path (codes "range")) (a_range names (key_of path (codes "range"))) (sole_required as_str rule path (codes "range"))
     (sole_a_range names (key_of path (codes "range")))
 
+sole_assign_parts : (names : List (List ℕ)) (rule : Members) (path : List ℕ) → Sole (assign_parts names rule path)
+sole_assign_parts names rule path =
+    sole_chain (knows_only (codes "admin" ∷ (codes "condition" ∷ (codes "range" ∷ []))) rule path) _ (sole_knows_only (codes "admin" ∷ (codes "condition" ∷ (codes "range" ∷ []))) rule path)
+    (λ known. sole_chain (the_admin names rule path) _ (sole_the_admin names rule path)
+    (λ admin. sole_chain (the_condition names rule path) _ (sole_the_condition names rule path)
+    (λ cond. sole_chain (the_range names rule path) _ (sole_the_range names rule path) (λ range. sole_gives _))))
+
+sole_assign_tests : (separate : Bool) (admins : List ℕ) (rule : AssignRule) (path : List ℕ) → Sole (assign_tests separate admins rule path)
+sole_assign_tests separate admins rule path =
+    sole_chain (not_wide rule.cond path) (λ narrow. not_mixed_rule separate admins rule.admin rule.range (Some rule.cond) path) (sole_fails_if _ _) (λ narrow. sole_fails_if _ _)
+
 sole_assign : (separate : Bool) (admins : List ℕ) (names : List (List ℕ)) (path : List ℕ) (d : Data) → Sole (an_assign_rule separate admins names path d)
 sole_assign separate admins names path d =
     sole_chain (of_kind (as_table d) path) _ (sole_of_kind (as_table d) path)
-    (λ rule. sole_chain (knows_only (codes "admin" ∷ (codes "condition" ∷ (codes "range" ∷ []))) rule path) _ (sole_knows_only (codes "admin" ∷ (codes "condition" ∷ (codes "range" ∷ []))) rule path)
+    (λ table. sole_chain (assign_parts names table path) _ (sole_assign_parts names table path)
+    (λ rule. sole_chain (assign_tests separate admins rule path) _ (sole_assign_tests separate admins rule path) (λ passed. sole_gives rule)))
+
+sole_revoke_parts : (names : List (List ℕ)) (rule : Members) (path : List ℕ) → Sole (revoke_parts names rule path)
+sole_revoke_parts names rule path =
+    sole_chain (knows_only (codes "admin" ∷ (codes "range" ∷ [])) rule path) _ (sole_knows_only (codes "admin" ∷ (codes "range" ∷ [])) rule path)
     (λ known. sole_chain (the_admin names rule path) _ (sole_the_admin names rule path)
-    (λ admin. sole_chain (the_condition names rule path) _ (sole_the_condition names rule path)
-    (λ cond. sole_chain (the_range names rule path) _ (sole_the_range names rule path)
-    (λ range. sole_chain (not_wide cond path) _ (sole_fails_if _ _)
-    (λ narrow. sole_chain (not_mixed_rule separate admins admin range (Some cond) path) _ (sole_fails_if _ _) (λ apart. sole_gives _)))))))
+    (λ admin. sole_chain (the_range names rule path) _ (sole_the_range names rule path) (λ range. sole_gives _)))
 
 sole_revoke : (separate : Bool) (admins : List ℕ) (names : List (List ℕ)) (path : List ℕ) (d : Data) → Sole (a_revoke_rule separate admins names path d)
 sole_revoke separate admins names path d =
     sole_chain (of_kind (as_table d) path) _ (sole_of_kind (as_table d) path)
-    (λ rule. sole_chain (knows_only (codes "admin" ∷ (codes "range" ∷ [])) rule path) _ (sole_knows_only (codes "admin" ∷ (codes "range" ∷ [])) rule path)
-    (λ known. sole_chain (the_admin names rule path) _ (sole_the_admin names rule path)
-    (λ admin. sole_chain (the_range names rule path) _ (sole_the_range names rule path)
-    (λ range. sole_chain (not_mixed_rule separate admins admin range None path) _ (sole_fails_if _ _) (λ apart. sole_gives _)))))
+    (λ table. sole_chain (revoke_parts names table path) _ (sole_revoke_parts names table path)
+    (λ rule. sole_chain (not_mixed_rule separate admins rule.admin rule.range None path) _ (sole_fails_if _ _) (λ apart. sole_gives rule)))
 
 sole_tables : {A : Type 0} (most : ℕ) (read : List ℕ → Data → Outcome A) (table : Members) (key : List ℕ)
     → ((path : List ℕ) (d : Data) → Sole (read path d)) → Sole (tables most read table key)
@@ -221,21 +233,33 @@ sole_the_goal need_goal names table = sole_may_be_goal need_goal names (get_memb
 
 -- documents
 
-sole_question : (need_goal : Bool) (table : Members) → Sole (question need_goal table)
-sole_question need_goal table =
+sole_head : (table : Members) → Sole (the_head table)
+sole_head table =
     sole_chain (knows_only known_keys table []) _ (sole_knows_only known_keys table [])
     (λ known. sole_chain (required as_version table [] (codes "version")) _ (sole_required as_version table [] (codes "version"))
-    (λ version. sole_chain (required as_bool table [] (codes "separate")) _ (sole_required as_bool table [] (codes "separate"))
-    (λ separate. sole_chain (role_names table) _ (sole_role_names table)
-    (λ names. sole_chain (admin_roles separate names table) _ (sole_admin_roles separate names table)
-    (λ admins. sole_chain (role_edges separate admins names table) _ (sole_role_edges separate admins names table)
-    (λ edges. sole_chain (exclusive_pairs version separate admins names table) _ (sole_exclusive_pairs version separate admins names table)
-    (λ exclusive. sole_chain (assign_rules separate admins names table (codes "can_assign")) _ (sole_tables MOST_RULES _ table (codes "can_assign") (sole_assign separate admins names))
+    (λ version. sole_chain (required as_bool table [] (codes "separate")) _ (sole_required as_bool table [] (codes "separate")) (λ separate. sole_gives _)))
+
+sole_roles : (head : HeadValue) (table : Members) → Sole (the_roles head table)
+sole_roles head table =
+    sole_chain (role_names table) _ (sole_role_names table)
+    (λ names. sole_chain (admin_roles head.separate names table) _ (sole_admin_roles head.separate names table)
+    (λ admins. sole_chain (role_edges head.separate admins names table) _ (sole_role_edges head.separate admins names table)
+    (λ edges. sole_chain (exclusive_pairs head.version head.separate admins names table) _ (sole_exclusive_pairs head.version head.separate admins names table) (λ exclusive. sole_gives _))))
+
+sole_rules : (separate : Bool) (admins : List ℕ) (names : List (List ℕ)) (table : Members) → Sole (the_rules separate admins names table)
+sole_rules separate admins names table =
+    sole_chain (assign_rules separate admins names table (codes "can_assign")) _ (sole_tables MOST_RULES _ table (codes "can_assign") (sole_assign separate admins names))
     (λ assign. sole_chain (revoke_rules separate admins names table (codes "can_revoke")) _ (sole_tables MOST_RULES _ table (codes "can_revoke") (sole_revoke separate admins names))
     (λ revoke. sole_chain (assign_rules separate admins names table (codes "can_assignp")) _ (sole_tables MOST_RULES _ table (codes "can_assignp") (sole_assign separate admins names))
-    (λ assignp. sole_chain (revoke_rules separate admins names table (codes "can_revokep")) _ (sole_tables MOST_RULES _ table (codes "can_revokep") (sole_revoke separate admins names))
-    (λ revokep. sole_chain (profiles names table) _ (sole_tables MOST_PROFILES (a_profile names) table (codes "profile") (sole_profile names))
-    (λ profiles. sole_chain (the_goal need_goal names table) _ (sole_the_goal need_goal names table) (λ goal. sole_gives _)))))))))))))
+    (λ assignp. sole_chain (revoke_rules separate admins names table (codes "can_revokep")) _ (sole_tables MOST_RULES _ table (codes "can_revokep") (sole_revoke separate admins names)) (λ revokep. sole_gives _))))
+
+sole_question : (need_goal : Bool) (table : Members) → Sole (question need_goal table)
+sole_question need_goal table =
+    sole_chain (the_head table) _ (sole_head table)
+    (λ head. sole_chain (the_roles head table) _ (sole_roles head table)
+    (λ roles. sole_chain (the_rules head.separate roles.admins roles.names table) _ (sole_rules head.separate roles.admins roles.names table)
+    (λ rules. sole_chain (profiles roles.names table) _ (sole_tables MOST_PROFILES (a_profile roles.names) table (codes "profile") (sole_profile roles.names))
+    (λ list. sole_chain (the_goal need_goal roles.names table) _ (sole_the_goal need_goal roles.names table) (λ goal. sole_gives _)))))
 
 sole_if_toml : (table : Option Members) → Sole (if_toml table)
 sole_if_toml None = sole_fails _

@@ -36,7 +36,7 @@ use Rattle.question_text.specs.declared.TheConstants.{MOST_PROFILES, MOST_OF_PRO
 use Rattle.question_text.specs.Keys.{entries, entry_of, of_kind, as_count, as_most, if_any, if_few, or_any, may_be, key_of}
 use Rattle.question_text.specs.Roles.{found, role_named, a_role, role_set}
 use Rattle.question_text.specs.Rules.{IsSet, IsCondition, IsAssignRule, IsRevokeRule, IsMost, IsProfile, combinations}
-use Rattle.question_text.specs.Tables.{a_condition, a_range, the_admin, the_condition, the_range, is_mixed_rule, names_admin, an_assign_rule, a_revoke_rule, tables, assign_rules, revoke_rules, a_profile, profiles, a_goal_condition, not_wide_goal, a_goal, may_be_goal, the_goal}
+use Rattle.question_text.specs.Tables.{a_condition, a_range, the_admin, the_condition, the_range, is_mixed_rule, names_admin, assign_parts, assign_tests, revoke_parts, an_assign_rule, a_revoke_rule, tables, assign_rules, revoke_rules, a_profile, profiles, a_goal_condition, not_wide_goal, a_goal, may_be_goal, the_goal}
 use Rattle.question_text.proofs.OutcomeLemmas.{same_ok, no_ok_err}
 
 -- conditions
@@ -125,38 +125,53 @@ apart_both false mixed other e s = absurd (cc)
 abbrev pub IsApart : List ℕ → AssignRule → Type 0
 IsApart admins rule = (is_mixed_rule admins rule.admin rule.range ≡ false) × (names_admin admins (Some rule.cond) ≡ false)
 
+assign_parts_kept : (names : List (List ℕ)) (table : Members) (path : List ℕ) (rule : AssignRule) → assign_parts names table path (Ok rule)
+    → (rule.admin < length names) × IsCondition (length names) rule.cond × IsKnownRange (length names) rule.range
+assign_parts_kept names table path rule (inl (fault, h, e)) = absurd (no_ok_err rule fault e)
+assign_parts_kept names table path rule (inr (known, k, inl (fault, h, e))) = absurd (no_ok_err rule fault e)
+assign_parts_kept names table path rule (inr (known, k, inr (admin, a, inl (fault, h, e)))) = absurd (no_ok_err rule fault e)
+assign_parts_kept names table path rule (inr (known, k, inr (admin, a, inr (cond, c, inl (fault, h, e))))) = absurd (no_ok_err rule fault e)
+assign_parts_kept names table path rule (inr (known, k, inr (admin, a, inr (cond, c, inr (range, r, e))))) =
+    let parts : AssignRule = record { admin = admin; cond = cond; range = range } in
+    subst (λ (x : AssignRule). (x.admin < length names) × IsCondition (length names) x.cond × IsKnownRange (length names) x.range) (same_ok parts rule (sym e))
+    (admin_kept names table path admin a, rule_condition_kept names table path cond c, rule_range_kept names table path range r)
+
+assign_tests_kept : (separate : Bool) (admins : List ℕ) (rule : AssignRule) (path : List ℕ) → assign_tests separate admins rule path (Ok tt)
+    → (width rule.cond ≤ MOST_CONJUNCTS) × (separate ≡ true → IsApart admins rule)
+assign_tests_kept separate admins rule path (inl (fault, h, e)) = absurd (no_ok_err tt fault e)
+assign_tests_kept separate admins rule path (inr (done, n, m)) = (
+  within MOST_CONJUNCTS (width rule.cond) (passed (nat_lt MOST_CONJUNCTS (width rule.cond)) _ n),
+  apart_both separate (is_mixed_rule admins rule.admin rule.range) (names_admin admins (Some rule.cond)) (passed _ _ m),
+)
+
 pub assign_rule_kept : (separate : Bool) (admins : List ℕ) (names : List (List ℕ)) (path : List ℕ) (d : Data) (rule : AssignRule) → an_assign_rule separate admins names path d (Ok rule)
     → IsAssignRule (length names) rule × (separate ≡ true → IsApart admins rule)
 assign_rule_kept separate admins names path d rule (inl (fault, h, e)) = absurd (no_ok_err rule fault e)
 assign_rule_kept separate admins names path d rule (inr (table, t, inl (fault, h, e))) = absurd (no_ok_err rule fault e)
-assign_rule_kept separate admins names path d rule (inr (table, t, inr (known, k, inl (fault, h, e)))) = absurd (no_ok_err rule fault e)
-assign_rule_kept separate admins names path d rule (inr (table, t, inr (known, k, inr (admin, a, inl (fault, h, e))))) = absurd (no_ok_err rule fault e)
-assign_rule_kept separate admins names path d rule (inr (table, t, inr (known, k, inr (admin, a, inr (cond, c, inl (fault, h, e)))))) = absurd (no_ok_err rule fault e)
-assign_rule_kept separate admins names path d rule (inr (table, t, inr (known, k, inr (admin, a, inr (cond, c, inr (range, r, inl (fault, h, e))))))) = absurd (no_ok_err rule fault e)
-assign_rule_kept separate admins names path d rule (inr (table, t, inr (known, k, inr (admin, a, inr (cond, c, inr (range, r, inr (done, n, inl (fault, h, e)))))))) = absurd (no_ok_err rule fault e)
-assign_rule_kept separate admins names path d rule (inr (table, t, inr (known, k, inr (admin, a, inr (cond, c, inr (range, r, inr (done, n, inr (over, m, e)))))))) =
-    let parts : AssignRule = record { admin = admin; cond = cond; range = range } in
-    let kept : IsAssignRule (length names) parts = record {
-      admin = admin_kept names table path admin a;
-      cond = rule_condition_kept names table path cond c;
-      range = rule_range_kept names table path range r;
-      narrow = within MOST_CONJUNCTS (width cond) (passed (nat_lt MOST_CONJUNCTS (width cond)) _ n);
-    } in
-    let apart : separate ≡ true → IsApart admins parts = apart_both separate (is_mixed_rule admins admin range) (names_admin admins (Some cond)) (passed _ _ m) in
-    subst (λ (x : AssignRule). IsAssignRule (length names) x × (separate ≡ true → IsApart admins x)) (same_ok parts rule (sym e)) (kept, apart)
+assign_rule_kept separate admins names path d rule (inr (table, t, inr (parts, p, inl (fault, h, e)))) = absurd (no_ok_err rule fault e)
+assign_rule_kept separate admins names path d rule (inr (table, t, inr (parts, p, inr (done, m, e)))) =
+    let read = assign_parts_kept names table path parts p in
+    let tested = assign_tests_kept separate admins parts path m in
+    let kept : IsAssignRule (length names) parts = record { admin = read.0; cond = read.1; range = read.2; narrow = tested.0 } in
+    subst (λ (x : AssignRule). IsAssignRule (length names) x × (separate ≡ true → IsApart admins x)) (same_ok parts rule (sym e)) (kept, tested.1)
+
+revoke_parts_kept : (names : List (List ℕ)) (table : Members) (path : List ℕ) (rule : CanRevoke) → revoke_parts names table path (Ok rule) → IsRevokeRule (length names) rule
+revoke_parts_kept names table path rule (inl (fault, h, e)) = absurd (no_ok_err rule fault e)
+revoke_parts_kept names table path rule (inr (known, k, inl (fault, h, e))) = absurd (no_ok_err rule fault e)
+revoke_parts_kept names table path rule (inr (known, k, inr (admin, a, inl (fault, h, e)))) = absurd (no_ok_err rule fault e)
+revoke_parts_kept names table path rule (inr (known, k, inr (admin, a, inr (range, r, e)))) =
+    let parts : CanRevoke = record { admin = admin; range = range } in
+    let kept : IsRevokeRule (length names) parts = record { admin = admin_kept names table path admin a; range = rule_range_kept names table path range r } in
+    subst (IsRevokeRule (length names)) (same_ok parts rule (sym e)) kept
 
 pub revoke_rule_kept : (separate : Bool) (admins : List ℕ) (names : List (List ℕ)) (path : List ℕ) (d : Data) (rule : CanRevoke) → a_revoke_rule separate admins names path d (Ok rule)
     → IsRevokeRule (length names) rule × (separate ≡ true → is_mixed_rule admins rule.admin rule.range ≡ false)
 revoke_rule_kept separate admins names path d rule (inl (fault, h, e)) = absurd (no_ok_err rule fault e)
 revoke_rule_kept separate admins names path d rule (inr (table, t, inl (fault, h, e))) = absurd (no_ok_err rule fault e)
-revoke_rule_kept separate admins names path d rule (inr (table, t, inr (known, k, inl (fault, h, e)))) = absurd (no_ok_err rule fault e)
-revoke_rule_kept separate admins names path d rule (inr (table, t, inr (known, k, inr (admin, a, inl (fault, h, e))))) = absurd (no_ok_err rule fault e)
-revoke_rule_kept separate admins names path d rule (inr (table, t, inr (known, k, inr (admin, a, inr (range, r, inl (fault, h, e)))))) = absurd (no_ok_err rule fault e)
-revoke_rule_kept separate admins names path d rule (inr (table, t, inr (known, k, inr (admin, a, inr (range, r, inr (over, m, e)))))) =
-    let parts : CanRevoke = record { admin = admin; range = range } in
-    let kept : IsRevokeRule (length names) parts = record { admin = admin_kept names table path admin a; range = rule_range_kept names table path range r } in
-    let apart : separate ≡ true → is_mixed_rule admins admin range ≡ false = λ s. (apart_both separate (is_mixed_rule admins admin range) false (passed _ _ m) s).0 in
-    subst (λ (x : CanRevoke). IsRevokeRule (length names) x × (separate ≡ true → is_mixed_rule admins x.admin x.range ≡ false)) (same_ok parts rule (sym e)) (kept, apart)
+revoke_rule_kept separate admins names path d rule (inr (table, t, inr (parts, p, inl (fault, h, e)))) = absurd (no_ok_err rule fault e)
+revoke_rule_kept separate admins names path d rule (inr (table, t, inr (parts, p, inr (over, m, e)))) =
+    let apart : separate ≡ true → is_mixed_rule admins parts.admin parts.range ≡ false = λ s. (apart_both separate (is_mixed_rule admins parts.admin parts.range) false (passed _ _ m) s).0 in
+    subst (λ (x : CanRevoke). IsRevokeRule (length names) x × (separate ≡ true → is_mixed_rule admins x.admin x.range ≡ false)) (same_ok parts rule (sym e)) (revoke_parts_kept names table path parts p, apart)
 
 -- the rules of a list keep the rules of a question
 pub assign_rules_kept : (separate : Bool) (admins : List ℕ) (names : List (List ℕ)) (table : Members) (key : List ℕ) (rules : List AssignRule)

@@ -1,11 +1,10 @@
+pub mod Limits
 pub mod Outcomes
 pub mod Values
 pub mod Keys
 pub mod Roles
 pub mod Tables
-pub mod Parts
 pub mod Documents
 pub mod Rules
 pub mod Answers
 pub mod Views
-pub mod Steps

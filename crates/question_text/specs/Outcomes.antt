@@ -33,6 +33,11 @@ abbrev pub fails_if : Bool → Fault → Outcome (Unit {0})
 fails_if false fault = gives tt
 fails_if true fault = fails fault
 
+-- the values that are seen as these, and the same faults
+abbrev pub seen_as : {A B : Type 0} → (A → B) → Outcome B → Outcome A
+seen_as view outcome (Ok value) = outcome (Ok (view value))
+seen_as view outcome (Err fault) = outcome (Err fault)
+
 infixl 10 ◌>>=◌
 -- the first one's fault, or what the second comes to with the first one's value
 abbrev pub ◌>>=◌ : {A B : Type 0} → Outcome A → (A → Outcome B) → Outcome B

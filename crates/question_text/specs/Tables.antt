@@ -9,8 +9,8 @@ use Rattle.arbac_policy.specs.Truth.{Term, any, has, lacks, both, either}
 use Rattle.cond_text.specs.declared.cond_error.CondError.{CondError}
 use Rattle.cond_text.specs.Reading.{IsFirstOf}
 use Rattle.policy_text.specs.declared.TheConstants.{MOST_RULES, MOST_GOALS}
-use Rattle.policy_text.specs.Shapes.{NamedRange, IsNamedRange, spell_range}
-use Rattle.policy_text.specs.Runs.{AssignRule, Says}
+use Rattle.policy_text.specs.LineForms.{NamedRange, IsNamedRange, spell_range}
+use Rattle.policy_text.specs.Runs.{AssignRule, ReadsAs}
 use Rattle.arbac_rules.specs.declared.TheConstants.{MOST_CONJUNCTS}
 use Rattle.arbac_rules.specs.Widths.{width}
 use Rattle.question_text.specs.declared.TheConstants.{MOST_PROFILES}
@@ -21,7 +21,7 @@ use Rattle.question_text.specs.Roles.{role_named, role_set}
 -- the text is a condition and stands for the term, or has this first fault
 abbrev pub a_condition : List (List ℕ) → List ℕ → List ℕ → Outcome Term
 a_condition names path text result =
-    ((term : Term) × Says names text term × (result ≡ Ok term))
+    ((term : Term) × ReadsAs names text term × (result ≡ Ok term))
     ⊎ ((error : CondError) × IsFirstOf names text error × (result ≡ Err (no_cond path error)))
 
 -- the text is a range between two names, or of the wrong kind
@@ -80,27 +80,43 @@ not_mixed_rule separate admins admin range cond path =
 abbrev pub not_wide : Term → List ℕ → Outcome (Unit {0})
 not_wide cond path = fails_if (nat_lt MOST_CONJUNCTS (width cond)) (too_wide path (width cond))
 
--- a rule of `can_assign` or `can_assignp`
-abbrev pub an_assign_rule : Bool → List ℕ → List (List ℕ) → List ℕ → Data → Outcome AssignRule
-an_assign_rule separate admins names path d = do
-  rule ← of_kind (as_table d) path
+-- the values of a rule's keys
+abbrev pub assign_parts : List (List ℕ) → Members → List ℕ → Outcome AssignRule
+assign_parts names rule path = do
   known ← knows_only (codes "admin" ∷ (codes "condition" ∷ (codes "range" ∷ []))) rule path
   admin ← the_admin names rule path
   cond ← the_condition names rule path
   range ← the_range names rule path
-  narrow ← not_wide cond path
-  apart ← not_mixed_rule separate admins admin range (Some cond) path
   gives (record { admin = admin; cond = cond; range = range })
+
+-- what is asked of a rule besides
+abbrev pub assign_tests : Bool → List ℕ → AssignRule → List ℕ → Outcome (Unit {0})
+assign_tests separate admins rule path = do
+  narrow ← not_wide rule.cond path
+  not_mixed_rule separate admins rule.admin rule.range (Some rule.cond) path
+
+-- a rule of `can_assign` or `can_assignp`
+abbrev pub an_assign_rule : Bool → List ℕ → List (List ℕ) → List ℕ → Data → Outcome AssignRule
+an_assign_rule separate admins names path d = do
+  table ← of_kind (as_table d) path
+  rule ← assign_parts names table path
+  passed ← assign_tests separate admins rule path
+  gives rule
+
+abbrev pub revoke_parts : List (List ℕ) → Members → List ℕ → Outcome CanRevoke
+revoke_parts names rule path = do
+  known ← knows_only (codes "admin" ∷ (codes "range" ∷ [])) rule path
+  admin ← the_admin names rule path
+  range ← the_range names rule path
+  gives (record { admin = admin; range = range })
 
 -- a rule of `can_revoke` or `can_revokep`
 abbrev pub a_revoke_rule : Bool → List ℕ → List (List ℕ) → List ℕ → Data → Outcome CanRevoke
 a_revoke_rule separate admins names path d = do
-  rule ← of_kind (as_table d) path
-  known ← knows_only (codes "admin" ∷ (codes "range" ∷ [])) rule path
-  admin ← the_admin names rule path
-  range ← the_range names rule path
-  apart ← not_mixed_rule separate admins admin range None path
-  gives (record { admin = admin; range = range })
+  table ← of_kind (as_table d) path
+  rule ← revoke_parts names table path
+  apart ← not_mixed_rule separate admins rule.admin rule.range None path
+  gives rule
 
 -- a list of tables under a key, each read alike
 abbrev pub tables : {A : Type 0} → ℕ → (List ℕ → Data → Outcome A) → Members → List ℕ → Outcome (List A)

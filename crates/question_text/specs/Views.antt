@@ -10,7 +10,7 @@ use Rattle.question_text.specs.declared.reading.Head.{Head}
 use Rattle.question_text.specs.declared.reading.Roles.{Roles}
 use Rattle.question_text.specs.declared.reading.Rules.{Rules}
 use Rattle.question_text.specs.Keys.{list_of}
-use Rattle.question_text.specs.Steps.{HeadValue, RolesValue, RulesValue}
+use Rattle.question_text.specs.Documents.{HeadValue, RolesValue, RulesValue}
 
 -- the entries of a list; of an absent one none
 abbrev pub entries_of : Option (Bor (Vec Value Global)) → List Data

@@ -5,12 +5,14 @@ ghost use Rattle.toml.specs.View.{table_view, array_view, view};
 ghost use Rattle.role_order.specs.Lists.{Each};
 ghost use Rattle.arbac_policy.specs.Truth.{term_of};
 ghost use Rattle.cond_text.specs.Grammar.{term_count};
+ghost use Rattle.question_text.specs.Outcomes.{seen_as};
 ghost use Rattle.question_text.specs.Keys.{list_of, entries};
 ghost use Rattle.question_text.specs.Rules.{IsCondition};
 ghost use Rattle.question_text.specs.Tables.{a_goal_condition, not_wide_goal, a_goal, the_goal as goal_of};
 ghost use Rattle.question_text.specs.Answers.{Answers};
 
-use crate::keys::{at_most, entry_path, filled_list, of_kind, value_at};
+use crate::entries::{ReadEntry, each_entry};
+use crate::keys::{at_most, filled_list, of_kind, value_at};
 use crate::question_error::QuestionError;
 use crate::rules::a_condition;
 use arbac_policy::Cond;
@@ -35,17 +37,20 @@ fn condition_of(
     a_condition(alloc, order, path, text)
 }
 
-fn each_condition(alloc: Global, order: &Order, list: &Array) -> Result<Vec<Cond>, QuestionError>
-    ensures conditions { Answers (λ conds. map term_of conds.items) (entries (a_goal_condition order.now.names) (codes "goal") (list_of (array_view list.now))) result }
-    ensures few { IfOk result (λ conds. Each (λ cond. term_count (term_of cond) ≤ MOST_TERMS) conds.items) }
-{
-    let mut conds = Vec::new(alloc);
-    for (place, value) in list.iter().enumerate() {
-        let at = entry_path(alloc, "goal", place)?;
-        let cond = condition_of(alloc, order, at.as_str(), value)?;
-        conds.push(cond)?;
+/// Reads conditions of a goal.
+#[derive(Clone, Copy)]
+struct ConditionReader<'o> {
+    order: &'o Order,
+}
+
+impl<'o> ReadEntry for ConditionReader<'o> {
+    type Entry = Cond;
+
+    ghost reads = { λ by path d. seen_as term_of (a_goal_condition by.order.now.names path d) };
+
+    fn read(&self, alloc: Global, path: &str, value: &Value) -> Result<Cond, QuestionError> {
+        condition_of(alloc, self.order, path, value)
     }
-    Ok(conds)
 }
 
 /// Refuses conditions with too many combinations of one conjunct of each. The count goes up to the
@@ -73,7 +78,7 @@ fn goal_at(alloc: Global, order: &Order, value: &Value) -> Result<Vec<Cond>, Que
 {
     let list = of_kind(alloc, filled_list(value), "goal")?;
     at_most(alloc, MOST_GOALS, "goal", list)?;
-    let conds = each_condition(alloc, order, list)?;
+    let conds = each_entry(alloc, &ConditionReader { order }, "goal", list)?;
     not_wide(alloc, conds.as_slice())?;
     Ok(conds)
 }

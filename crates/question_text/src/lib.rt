@@ -1,6 +1,7 @@
 //! Question documents: a policy, profiles of users and a goal, read from TOML.
 #![tactic(auto)]
 
+mod entries;
 mod goals;
 mod keys;
 mod profiles;

@@ -9,8 +9,9 @@ ghost use Rattle.question_text.specs.Tables.{a_profile, profiles as profiles_of}
 ghost use Rattle.question_text.specs.Answers.{Answers};
 
 use crate::MOST_PROFILES;
+use crate::entries::{ReadEntry, each_entry};
 use crate::keys::{
-    at_most, entry_path, key_path, knows_only, of_kind, optional_list, optional_most, required_list,
+    at_most, key_path, knows_only, of_kind, optional_list, optional_most, required_list,
 };
 use crate::question_error::QuestionError;
 use crate::roles::role_set;
@@ -38,16 +39,20 @@ fn profile_of(
     Ok(Profile { set, most })
 }
 
-fn each_profile(alloc: Global, order: &Order, list: &Array) -> Result<Vec<Profile>, QuestionError>
-    ensures { Answers (λ profiles. profiles.items) (entries (a_profile order.now.names) (codes "profile") (list_of (array_view list.now))) result }
-{
-    let mut profiles = Vec::new(alloc);
-    for (place, value) in list.iter().enumerate() {
-        let at = entry_path(alloc, "profile", place)?;
-        let profile = profile_of(alloc, order, at.as_str(), value)?;
-        profiles.push(profile)?;
+/// Reads profiles.
+#[derive(Clone, Copy)]
+struct ProfileReader<'o> {
+    order: &'o Order,
+}
+
+impl<'o> ReadEntry for ProfileReader<'o> {
+    type Entry = Profile;
+
+    ghost reads = { λ by path d. a_profile by.order.now.names path d };
+
+    fn read(&self, alloc: Global, path: &str, value: &Value) -> Result<Profile, QuestionError> {
+        profile_of(alloc, self.order, path, value)
     }
-    Ok(profiles)
 }
 
 /// The profiles of a document.
@@ -58,5 +63,5 @@ pub fn profiles(alloc: Global, order: &Order, table: &Table) -> Result<Vec<Profi
         return Ok(Vec::new(alloc));
     };
     at_most(alloc, MOST_PROFILES, "profile", list)?;
-    each_profile(alloc, order, list)
+    each_entry(alloc, &ProfileReader { order }, "profile", list)
 }

@@ -5,9 +5,9 @@ ghost use Rattle.toml.specs.View.{table_view};
 ghost use Rattle.arbac_policy.specs.Rules.{IsPolicy, AreCountable, policy_of as rules_of};
 ghost use Rattle.question_text.specs.Outcomes.{Fault};
 ghost use Rattle.question_text.specs.Values.{QuestionValue, plain_of};
-ghost use Rattle.question_text.specs.Documents.{document};
+ghost use Rattle.question_text.specs.Documents.{the_head, the_roles, the_rules, question, document};
+ghost use Rattle.question_text.specs.Limits.{AreLimits};
 ghost use Rattle.question_text.specs.Rules.{KeepsRules};
-ghost use Rattle.question_text.specs.Steps.{the_head, the_roles, the_rules, grouped};
 ghost use Rattle.question_text.specs.Answers.{Answers, IsToldBy, fault_of, Reads, Tells};
 ghost use Rattle.question_text.specs.Views.{head_view, roles_view, rules_view};
 
@@ -132,7 +132,7 @@ fn policy_of(order: Order, rules: Rules, exclusive: Vec<(u16, u16)>) -> Policy
 
 /// Reads all keys, group by group.
 fn read_table(alloc: Global, table: &Table, need_goal: bool) -> Result<Question, QuestionError>
-    ensures { Answers plain_of (grouped need_goal (table_view table.now)) result }
+    ensures { Answers plain_of (question need_goal (table_view table.now)) result }
 {
     let head = read_head(alloc, table)?;
     let roles = read_roles(alloc, &head, table)?;
@@ -174,6 +174,7 @@ pub fn read_question(
     ensures only { (q : QuestionValue) → document need_goal bytes.now (Ok q) → Reads result q }
     ensures told { (fault : Fault) → document need_goal bytes.now (Err fault) → Tells result fault }
     ensures one { (left right : Result QuestionValue Fault) → document need_goal bytes.now left → document need_goal bytes.now right → left ≡ right }
+    ensures limits { AreLimits }
 {
     read(alloc, bytes, need_goal)
 }

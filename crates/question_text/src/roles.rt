@@ -5,6 +5,7 @@ ghost use Rattle.toml.specs.View.{table_view, array_view, view};
 ghost use Rattle.role_order.specs.Names.{texts};
 ghost use Rattle.role_order.specs.Refusals.{IsOrder};
 ghost use Rattle.question_text.specs.Keys.{entries, list_of, as_two_different_texts};
+ghost use Rattle.question_text.specs.declared.TheConstants.{MOST_PAIRS};
 ghost use Rattle.question_text.specs.Roles.{a_text, a_role, an_edge, a_pair, is_order, listed_roles};
 ghost use Rattle.question_text.specs.Roles.{role_named as named, role_set as set_of, role_names as names_of, admin_list as admins_list, admin_roles as admins_of};
 ghost use Rattle.question_text.specs.Roles.{both_roles as both, is_mixed as mixed, not_mixed as apart, role_edges as edges_of, exclusive_pairs as exclusive_of};
@@ -12,6 +13,7 @@ ghost use Rattle.question_text.specs.Answers.{Answers};
 ghost use Rattle.question_text.specs.Views.{entries_of};
 
 use crate::MOST_PAIRS;
+use crate::entries::{ReadEntry, each_entry};
 use crate::keys::{
     at_most, entry_path, of_kind, optional_list, required_list, two_texts, value_at,
 };
@@ -210,30 +212,36 @@ fn pair_of(
     both_roles(alloc, order, path, texts)
 }
 
-/// The edges of the list, one after another.
-fn each_edge(alloc: Global, order: &Order, list: &Array) -> Result<Vec<(u16, u16)>, QuestionError>
-    ensures { Answers (λ edges. edges.items) (entries (an_edge order.now.names) (codes "edges") (list_of (array_view list.now))) result }
-{
-    let mut edges = Vec::new(alloc);
-    for (place, value) in list.iter().enumerate() {
-        let at = entry_path(alloc, "edges", place)?;
-        let edge = edge_of(alloc, order, at.as_str(), value)?;
-        edges.push(edge)?;
-    }
-    Ok(edges)
+/// Reads edges.
+#[derive(Clone, Copy)]
+struct EdgeReader<'o> {
+    order: &'o Order,
 }
 
-/// The exclusive pairs of the list, one after another.
-fn each_pair(alloc: Global, order: &Order, list: &Array) -> Result<Vec<(u16, u16)>, QuestionError>
-    ensures { Answers (λ pairs. pairs.items) (entries (a_pair order.now.names) (codes "exclusive") (list_of (array_view list.now))) result }
-{
-    let mut pairs = Vec::new(alloc);
-    for (place, value) in list.iter().enumerate() {
-        let at = entry_path(alloc, "exclusive", place)?;
-        let pair = pair_of(alloc, order, at.as_str(), value)?;
-        pairs.push(pair)?;
+impl<'o> ReadEntry for EdgeReader<'o> {
+    type Entry = (u16, u16);
+
+    ghost reads = { λ by path d. an_edge by.order.now.names path d };
+
+    fn read(&self, alloc: Global, path: &str, value: &Value) -> Result<(u16, u16), QuestionError> {
+        edge_of(alloc, self.order, path, value)
     }
-    Ok(pairs)
+}
+
+/// Reads exclusive pairs.
+#[derive(Clone, Copy)]
+struct PairReader<'o> {
+    order: &'o Order,
+}
+
+impl<'o> ReadEntry for PairReader<'o> {
+    type Entry = (u16, u16);
+
+    ghost reads = { λ by path d. a_pair by.order.now.names path d };
+
+    fn read(&self, alloc: Global, path: &str, value: &Value) -> Result<(u16, u16), QuestionError> {
+        pair_of(alloc, self.order, path, value)
+    }
 }
 
 /// Whether one of the roles is administrative and the other isn't.
@@ -287,7 +295,7 @@ fn edges_listed(
         return Ok(Vec::new(alloc));
     };
     at_most(alloc, MOST_EDGES, "edges", list)?;
-    let edges = each_edge(alloc, order, list)?;
+    let edges = each_entry(alloc, &EdgeReader { order }, "edges", list)?;
     not_mixed(alloc, separate, admins, "edges", edges.as_slice())?;
     Ok(edges)
 }
@@ -333,7 +341,7 @@ fn pairs_listed(
         return Ok(Vec::new(alloc));
     };
     at_most(alloc, MOST_PAIRS, "exclusive", list)?;
-    let pairs = each_pair(alloc, order, list)?;
+    let pairs = each_entry(alloc, &PairReader { order }, "exclusive", list)?;
     not_mixed(alloc, separate, admins, "exclusive", pairs.as_slice())?;
     Ok(pairs)
 }

@@ -8,17 +8,16 @@ ghost use Rattle.arbac_policy.specs.Truth.{term_of, IsKnown};
 ghost use Rattle.arbac_policy.specs.Rules.{IsKnownRange, IsKnownAssign, IsKnownRevoke};
 ghost use Rattle.cond_text.specs.Grammar.{term_count};
 ghost use Rattle.policy_text.specs.Runs.{plain_rule};
-ghost use Rattle.question_text.specs.Outcomes.{fails_if, mixed_role};
+ghost use Rattle.question_text.specs.Outcomes.{fails_if, mixed_role, seen_as};
 ghost use Rattle.question_text.specs.Keys.{list_of, entries};
 ghost use Rattle.question_text.specs.Tables.{a_condition as condition_text, a_range as range_text, is_mixed_rule};
 ghost use Rattle.question_text.specs.Tables.{the_admin as admin_of, the_condition as condition_of, the_range as range_of, names_some as some_named, not_wide as narrow, not_mixed_rule};
 ghost use Rattle.question_text.specs.Tables.{an_assign_rule as assign_rule_of, a_revoke_rule as revoke_rule_of, assign_rules as assign_rules_of, revoke_rules as revoke_rules_of};
-ghost use Rattle.question_text.specs.Parts.{assign_parts as assign_parts_of, assign_tests as assign_tests_of, revoke_parts as revoke_parts_of};
+ghost use Rattle.question_text.specs.Tables.{assign_parts as assign_parts_of, assign_tests as assign_tests_of, revoke_parts as revoke_parts_of};
 ghost use Rattle.question_text.specs.Answers.{Answers};
 
-use crate::keys::{
-    at_most, entry_path, key_path, knows_only, of_kind, optional_list, required_text,
-};
+use crate::entries::{ReadEntry, each_entry};
+use crate::keys::{at_most, key_path, knows_only, of_kind, optional_list, required_text};
 use crate::question_error::QuestionError;
 use crate::roles::role_named;
 use arbac_policy::{CanAssign, CanRevoke, Cond};
@@ -252,23 +251,22 @@ fn a_revoke_rule(
     Ok(rule)
 }
 
-fn each_assign(
-    alloc: Global,
-    order: &Order,
+/// Reads rules of `can_assign` or `can_assignp`.
+#[derive(Clone, Copy)]
+struct AssignReader<'o> {
+    order: &'o Order,
     separate: bool,
-    admins: &RoleSet,
-    key: &str,
-    list: &Array,
-) -> Result<Vec<CanAssign>, QuestionError>
-    ensures { Answers (λ rules. map plain_rule rules.items) (entries (assign_rule_of separate admins.now order.now.names) key.now (list_of (array_view list.now))) result }
-{
-    let mut rules = Vec::new(alloc);
-    for (place, value) in list.iter().enumerate() {
-        let at = entry_path(alloc, key, place)?;
-        let rule = an_assign_rule(alloc, order, separate, admins, at.as_str(), value)?;
-        rules.push(rule)?;
+    admins: &'o RoleSet,
+}
+
+impl<'o> ReadEntry for AssignReader<'o> {
+    type Entry = CanAssign;
+
+    ghost reads = { λ by path d. seen_as plain_rule (assign_rule_of by.separate by.admins.now by.order.now.names path d) };
+
+    fn read(&self, alloc: Global, path: &str, value: &Value) -> Result<CanAssign, QuestionError> {
+        an_assign_rule(alloc, self.order, self.separate, self.admins, path, value)
     }
-    Ok(rules)
 }
 
 /// The rules of `can_assign` or `can_assignp`, the list under the key.
@@ -288,26 +286,30 @@ pub fn assign_rules(
         return Ok(Vec::new(alloc));
     };
     at_most(alloc, MOST_RULES, key, list)?;
-    each_assign(alloc, order, separate, admins, key, list)
+    let reader = AssignReader {
+        order,
+        separate,
+        admins,
+    };
+    each_entry(alloc, &reader, key, list)
 }
 
-fn each_revoke(
-    alloc: Global,
-    order: &Order,
+/// Reads rules of `can_revoke` or `can_revokep`.
+#[derive(Clone, Copy)]
+struct RevokeReader<'o> {
+    order: &'o Order,
     separate: bool,
-    admins: &RoleSet,
-    key: &str,
-    list: &Array,
-) -> Result<Vec<CanRevoke>, QuestionError>
-    ensures { Answers (λ rules. rules.items) (entries (revoke_rule_of separate admins.now order.now.names) key.now (list_of (array_view list.now))) result }
-{
-    let mut rules = Vec::new(alloc);
-    for (place, value) in list.iter().enumerate() {
-        let at = entry_path(alloc, key, place)?;
-        let rule = a_revoke_rule(alloc, order, separate, admins, at.as_str(), value)?;
-        rules.push(rule)?;
+    admins: &'o RoleSet,
+}
+
+impl<'o> ReadEntry for RevokeReader<'o> {
+    type Entry = CanRevoke;
+
+    ghost reads = { λ by path d. revoke_rule_of by.separate by.admins.now by.order.now.names path d };
+
+    fn read(&self, alloc: Global, path: &str, value: &Value) -> Result<CanRevoke, QuestionError> {
+        a_revoke_rule(alloc, self.order, self.separate, self.admins, path, value)
     }
-    Ok(rules)
 }
 
 /// The rules of `can_revoke` or `can_revokep`, the list under the key.
@@ -327,5 +329,10 @@ pub fn revoke_rules(
         return Ok(Vec::new(alloc));
     };
     at_most(alloc, MOST_RULES, key, list)?;
-    each_revoke(alloc, order, separate, admins, key, list)
+    let reader = RevokeReader {
+        order,
+        separate,
+        admins,
+    };
+    each_entry(alloc, &reader, key, list)
 }

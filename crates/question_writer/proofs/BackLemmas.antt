@@ -17,8 +17,8 @@ use Rattle.arbac_rules.specs.declared.TheConstants.{MOST_CONJUNCTS}
 use Rattle.cond_text.specs.Printing.{text_of}
 use Rattle.cond_text.proofs.PrintLemmas.{stands_of, back_of}
 use Rattle.policy_text.specs.declared.TheConstants.{MOST_RULES, MOST_GOALS}
-use Rattle.policy_text.specs.Shapes.{spell_range}
-use Rattle.policy_text.specs.Runs.{AssignRule, Says}
+use Rattle.policy_text.specs.LineForms.{spell_range}
+use Rattle.policy_text.specs.Runs.{AssignRule, ReadsAs}
 use Rattle.toml.specs.Data.{Data, integer, Members, get_member}
 use Rattle.toml.specs.Tables.{at_key, along_dots}
 use Rattle.question_text.specs.declared.TheConstants.{MOST_PROFILES, MOST_OF_PROFILE}
@@ -64,7 +64,7 @@ each_with test P Q R (x ∷ xs) both h k = (both x h.0 (λ e. (k e).0), each_wit
 -- ---- one rule, one profile, one condition
 
 module _ (names : List (List ℕ)) (ok : AreNames names) where
-  says : (cond : Term) → IsCondition (length names) cond → Says names (text_of names cond) cond
+  says : (cond : Term) → IsCondition (length names) cond → ReadsAs names (text_of names cond) cond
   says cond h = (stands_of names cond (text_of names cond) ok h.known refl, back_of names cond (text_of names cond) ok h.known refl h.few)
 
   is_condition : (cond : Term) → IsCondition (length names) cond → (at : List ℕ) → a_condition names at (text_of names cond) (Ok cond)
@@ -92,7 +92,7 @@ module _ (names : List (List ℕ)) (ok : AreNames names) where
         let name = get_or names rule.admin [] in
         let text = text_of names rule.cond in
         let ends = spell_range (named names rule.range) in
-        inr (_, refl, inr (tt, refl, inr (rule.admin, inr (name, refl, admin), inr (rule.cond, inr (text, refl, cond), inr (rule.range, inr (ends, refl, range), inr (tt, narrow, inr (tt, unmixed, refl)))))))
+        inr (_, refl, inr (rule, inr (tt, refl, inr (rule.admin, inr (name, refl, admin), inr (rule.cond, inr (text, refl, cond), inr (rule.range, inr (ends, refl, range), refl)))), inr (tt, inr (tt, narrow, unmixed), refl)))
       where
         neither : (a b : Bool) → (a ≡ false) × (b ≡ false) → (a || b) ≡ false
         neither a b e = rw (e.0, e.1) refl
@@ -106,7 +106,7 @@ module _ (names : List (List ℕ)) (ok : AreNames names) where
         let unmixed = holds_apart separate (is_mixed_rule admins rule.admin rule.range || names_admin admins None) (mixed_role at) (λ e. alone _ (apart e)) in
         let name = get_or names rule.admin [] in
         let ends = spell_range (named names rule.range) in
-        inr (_, refl, inr (tt, refl, inr (rule.admin, inr (name, refl, admin), inr (rule.range, inr (ends, refl, range), inr (tt, unmixed, refl)))))
+        inr (_, refl, inr (rule, inr (tt, refl, inr (rule.admin, inr (name, refl, admin), inr (rule.range, inr (ends, refl, range), refl))), inr (tt, unmixed, refl)))
       where
         alone : (a : Bool) → a ≡ false → (a || false) ≡ false
         alone a e = rw e refl

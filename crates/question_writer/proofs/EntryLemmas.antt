@@ -19,7 +19,7 @@ use Rattle.arbac_policy.specs.declared.profile.Profile.{Profile}
 use Rattle.arbac_policy.specs.Truth.{Term, IsKnown}
 use Rattle.arbac_policy.specs.Rules.{IsKnownRange, IsKnownPair}
 use Rattle.cond_text.specs.Printing.{text_of}
-use Rattle.policy_text.specs.Shapes.{spell_range}
+use Rattle.policy_text.specs.LineForms.{spell_range}
 use Rattle.policy_text.specs.Runs.{AssignRule}
 use Rattle.toml_writer.specs.Text.{key_text}
 use Rattle.toml.specs.Data.{Data, string, integer, boolean, depth, has_valid_dates}

@@ -15,13 +15,11 @@ use Rattle.question_text.specs.declared.question.Question.{Question}
 use Rattle.question_text.specs.Values.{QuestionValue, plain_of}
 use Rattle.question_text.specs.Keys.{toml_of, as_list, as_version}
 use Rattle.question_text.specs.Roles.{a_text, an_edge, a_pair, role_names, admin_list, admin_roles, listed_roles, role_edges, exclusive_pairs, is_there}
-use Rattle.question_text.specs.Steps.{the_head, the_roles, the_rules}
-use Rattle.question_text.specs.Documents.{known_keys, question, document}
+use Rattle.question_text.specs.Documents.{known_keys, the_head, the_roles, the_rules, question, document}
 use Rattle.question_text.specs.Rules.{IsPair, KeepsRules}
 use Rattle.question_writer.specs.Texts.{question_text}
 use Rattle.question_writer.proofs.BackLemmas.{no_edges, is_version, are_assign_rules, are_revoke_rules, are_profiles, is_the_goal}
 use Rattle.question_writer.proofs.BlockLemmas.{blocks_utf8}
-use Rattle.question_text.proofs.GroupLemmas.{group_question}
 use Rattle.question_writer.proofs.EntryLemmas.{top, sections_of, top_written, sections_written, text_blocks, role_data, pair_data, version_number}
 use Rattle.question_writer.proofs.BackPartLemmas.{is_known, holds_not, is_required, as_list_data, is_optional, is_listed, are_few, are_read, is_an_edge, is_a_pair, is_role_set, are_not_mixed}
 use Rattle.question_writer.proofs.BackTableLemmas.{list_or_none, IsTableOf, table_read}
@@ -94,7 +92,7 @@ module _ (q : QuestionValue) (h : KeepsRules q) (found : Members) (is : IsTableO
       let ok = h.order.are_names in
       let list = are_profiles q.names ok found q.profiles is.has_profiles h.profiles in
       let goal = is_the_goal q.names ok need found q.goal is.has_goal some h.goal h.narrow in
-      group_question need found (Ok q) (inr (_, is_head, inr (_, are_roles, inr (_, are_rules, inr (q.profiles, list, inr (q.goal, goal, refl))))))
+      inr (_, is_head, inr (_, are_roles, inr (_, are_rules, inr (q.profiles, list, inr (q.goal, goal, refl)))))
 
 text_utf8 : (q : QuestionValue) → KeepsRules q → IsUtf8 (question_text q)
 text_utf8 q h = subst IsUtf8 (sym (text_blocks q)) (blocks_utf8 (top q) (sections_of q) (top_written q h) (sections_written q h))

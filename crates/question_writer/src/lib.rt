@@ -6,4 +6,5 @@ mod pieces;
 mod tests;
 mod writing;
 
+pub use std::alloc::AllocError as NoMemory;
 pub use writing::write_question;

@@ -1,31 +1,70 @@
 //! Questions that are read, and the texts that are written for them.
+//!
+//! `;` with the end of its line stands between the entries of a list, which is one text, since the check reads a list of
+//! texts entry by entry.
 
 use crate::write_question;
 use question_text::{QuestionError, read_question};
 use std::alloc::Global;
 use std::test::Fail;
 
-const MIXED: &str =
-    "version = 1\nseparate = false\nroles = [\"adm\", \"c\"]\nadmin_roles = []\nedges = []\ngoal = [\"c\"]\n\
-[[can_assign]]\nadmin = \"adm\"\ncondition = \"not adm\"\nrange = \"[c,c]\"\n\
-[[can_revoke]]\nadmin = \"adm\"\nrange = \"[adm,adm]\"\n\
-[[profile]]\nroles = [\"adm\"]\nmost = 1\n";
-
-const EXCLUSIVE: &str =
-    "version = 2\nseparate = false\nroles = [\"adm\", \"a\", \"b\"]\nadmin_roles = []\nedges = []\nexclusive = [[\"a\", \"b\"]]\ngoal = [\"a and b\"]\n\
-[[can_assign]]\nadmin = \"adm\"\ncondition = \"any\"\nrange = \"[a,a]\"\n\
-[[can_assign]]\nadmin = \"adm\"\ncondition = \"any\"\nrange = \"[b,b]\"\n\
-[[profile]]\nroles = [\"adm\"]\nmost = 1\n";
-
-/// The same roles, which exclude one another no longer.
-const FREE: &str =
-    "version = 1\nseparate = false\nroles = [\"adm\", \"a\", \"b\"]\nadmin_roles = []\nedges = []\ngoal = [\"a and b\"]\n\
-[[can_assign]]\nadmin = \"adm\"\ncondition = \"any\"\nrange = \"[a,a]\"\n\
-[[can_assign]]\nadmin = \"adm\"\ncondition = \"any\"\nrange = \"[b,b]\"\n\
-[[profile]]\nroles = [\"adm\"]\nmost = 1\n";
-
-/// An engineering department of two projects, with its security officers.
-const DEPARTMENT: &str = r#"version = 1
+/// Texts that are written for their own questions. The third is the second with roles that exclude one another no longer;
+/// the fourth is an engineering department of two projects, with its security officers.
+const WRITTEN: &str = r#"version = 1
+separate = false
+roles = ["adm", "c"]
+admin_roles = []
+edges = []
+goal = ["c"]
+[[can_assign]]
+admin = "adm"
+condition = "not adm"
+range = "[c,c]"
+[[can_revoke]]
+admin = "adm"
+range = "[adm,adm]"
+[[profile]]
+roles = ["adm"]
+most = 1
+;
+version = 2
+separate = false
+roles = ["adm", "a", "b"]
+admin_roles = []
+edges = []
+exclusive = [["a", "b"]]
+goal = ["a and b"]
+[[can_assign]]
+admin = "adm"
+condition = "any"
+range = "[a,a]"
+[[can_assign]]
+admin = "adm"
+condition = "any"
+range = "[b,b]"
+[[profile]]
+roles = ["adm"]
+most = 1
+;
+version = 1
+separate = false
+roles = ["adm", "a", "b"]
+admin_roles = []
+edges = []
+goal = ["a and b"]
+[[can_assign]]
+admin = "adm"
+condition = "any"
+range = "[a,a]"
+[[can_assign]]
+admin = "adm"
+condition = "any"
+range = "[b,b]"
+[[profile]]
+roles = ["adm"]
+most = 1
+;
+version = 1
 separate = true
 roles = ["E", "ED", "E1", "PE1", "QE1", "PL1", "E2", "PE2", "QE2", "PL2", "DIR", "SSO", "DSO", "PSO1", "PSO2"]
 admin_roles = ["SSO", "DSO", "PSO1", "PSO2"]
@@ -86,41 +125,84 @@ most = "any"
 [[profile]]
 roles = ["SSO"]
 most = 1
+;
+version = 1
+separate = true
+roles = ["E", "SSO", "PL1", "DSO"]
+admin_roles = ["SSO", "DSO"]
+edges = [["PL1", "E"], ["SSO", "DSO"]]
+goal = ["PL1", "(E or PL1) and not E"]
+[[can_assign]]
+admin = "SSO"
+condition = "any"
+range = "(E,PL1]"
+[[can_revoke]]
+admin = "SSO"
+range = "[E,PL1)"
+[[can_assignp]]
+admin = "DSO"
+condition = "E or not PL1"
+range = "[E,PL1]"
+[[can_revokep]]
+admin = "DSO"
+range = "(E,PL1)"
+[[profile]]
+roles = ["E"]
+most = "any"
+[[profile]]
+roles = []
+most = 0
+[[profile]]
+roles = ["E", "SSO"]
+most = 1000000
+;
+version = 1
+separate = false
+roles = ["a"]
+admin_roles = []
+edges = []
 "#;
 
-const SEPARATE: &str =
-    "version = 1\nseparate = true\nroles = [\"E\", \"SSO\", \"PL1\", \"DSO\"]\nadmin_roles = [\"SSO\", \"DSO\"]\nedges = [[\"PL1\", \"E\"], [\"SSO\", \"DSO\"]]\ngoal = [\"PL1\", \"(E or PL1) and not E\"]\n\
-[[can_assign]]\nadmin = \"SSO\"\ncondition = \"any\"\nrange = \"(E,PL1]\"\n\
-[[can_revoke]]\nadmin = \"SSO\"\nrange = \"[E,PL1)\"\n\
-[[can_assignp]]\nadmin = \"DSO\"\ncondition = \"E or not PL1\"\nrange = \"[E,PL1]\"\n\
-[[can_revokep]]\nadmin = \"DSO\"\nrange = \"(E,PL1)\"\n\
-[[profile]]\nroles = [\"E\"]\nmost = \"any\"\n\
-[[profile]]\nroles = []\nmost = 0\n\
-[[profile]]\nroles = [\"E\", \"SSO\"]\nmost = 1000000\n";
-
-const BARE: &str = "version = 1\nseparate = false\nroles = [\"a\"]\nadmin_roles = []\nedges = []\n";
-
-/// Texts, each with the one that is written for its question.
-const WRITTEN: [(&str, &str); 9] = [
-    (MIXED, MIXED),
-    (EXCLUSIVE, EXCLUSIVE),
-    (FREE, FREE),
-    (DEPARTMENT, DEPARTMENT),
-    (SEPARATE, SEPARATE),
-    (BARE, BARE),
-    (
-        "version=2\nseparate=false\nroles=['a']\nexclusive=[]\n",
-        BARE,
-    ),
-    (
-        "# A set that is listed out of order, and no number of users.\ngoal = ['((a))']\nversion = 1\nseparate = false\nroles = ['b', 'a']\nadmin_roles = ['a', 'b', 'a']\nprofile = [{roles = ['a', 'b', 'a']}]\n",
-        "version = 1\nseparate = false\nroles = [\"b\", \"a\"]\nadmin_roles = [\"b\", \"a\"]\nedges = []\ngoal = [\"a\"]\n[[profile]]\nroles = [\"b\", \"a\"]\nmost = \"any\"\n",
-    ),
-    (
-        "version = 2\nseparate = false\nroles = ['a', 'b', 'c']\nexclusive = [['c', 'a'], ['a', 'b'], ['c', 'a']]\n",
-        "version = 2\nseparate = false\nroles = [\"a\", \"b\", \"c\"]\nadmin_roles = []\nedges = []\nexclusive = [[\"c\", \"a\"], [\"a\", \"b\"], [\"c\", \"a\"]]\n",
-    ),
-];
+/// Other texts, each with the one that is written for its question: `TEXT => WRITTEN`. In the second a set is listed out of
+/// order, and the number of users is absent.
+const REWRITTEN: &str = r#"version=2
+separate=false
+roles=['a']
+exclusive=[]
+ => version = 1
+separate = false
+roles = ["a"]
+admin_roles = []
+edges = []
+;
+# A set that is listed out of order, and no number of users.
+goal = ['((a))']
+version = 1
+separate = false
+roles = ['b', 'a']
+admin_roles = ['a', 'b', 'a']
+profile = [{roles = ['a', 'b', 'a']}]
+ => version = 1
+separate = false
+roles = ["b", "a"]
+admin_roles = ["b", "a"]
+edges = []
+goal = ["a"]
+[[profile]]
+roles = ["b", "a"]
+most = "any"
+;
+version = 2
+separate = false
+roles = ['a', 'b', 'c']
+exclusive = [['c', 'a'], ['a', 'b'], ['c', 'a']]
+ => version = 2
+separate = false
+roles = ["a", "b", "c"]
+admin_roles = []
+edges = []
+exclusive = [["c", "a"], ["a", "b"], ["c", "a"]]
+"#;
 
 /// The text that is written for the question that was read.
 fn rewritten(alloc: Global, text: &str) -> Result<Vec<u8>, QuestionError> {
@@ -132,9 +214,14 @@ fn rewritten(alloc: Global, text: &str) -> Result<Vec<u8>, QuestionError> {
 #[test]
 fn questions_are_written(rt: HostRuntime) -> Result<(), Fail> {
     let alloc = rt.alloc();
-    for (given, written) in &WRITTEN {
-        let bytes = rewritten(alloc, given)?;
-        assert_eq!(rt; bytes.as_slice(), written.as_bytes(), "{given}");
+    for text in WRITTEN.split(";\n") {
+        let bytes = rewritten(alloc, text)?;
+        assert_eq!(rt; bytes.as_slice(), text.as_bytes(), "{text}");
+    }
+    for row in REWRITTEN.split(";\n") {
+        let (text, written) = row.split_once(" => ").ok_or("a row has no answer")?;
+        let bytes = rewritten(alloc, text)?;
+        assert_eq!(rt; bytes.as_slice(), written.as_bytes(), "{text}");
     }
     Ok(())
 }

@@ -1,6 +1,6 @@
-use Rattle.std.proofs.Common.{ℕ, ◌≡◌, List, IfSome, IfNone, Option, Some, None, option_map, refl, sym, ◌∙◌, ap}
+use Rattle.std.proofs.Common.{ℕ, ◌≡◌, List, IfSome, IfNone, Option, Some, None, option_map, sym, ◌∙◌, ap}
 use Rattle.policy_text.specs.declared.line.NamedRange.{NamedRange as Read}
-use Rattle.policy_text.specs.Shapes.{NamedRange, IsNamedRange, spell_range}
+use Rattle.policy_text.specs.LineForms.{NamedRange, IsNamedRange, spell_range}
 use Rattle.policy_text.specs.Spelling.{range_in}
 use Rattle.policy_text.specs.Views.{range_view}
 use Rattle.policy_text.proofs.SpellLemmas.{ranged}

@@ -21,6 +21,6 @@ returns-in_err-at_most c =
 pub returns : goal.returns
 returns c =
     tables_end (λ profiles. profiles.items) MOST_PROFILES (a_profile c.args.order.now.names) (table_view c.args.table.now) (codes "profile") (list_of (array_view c.in-Some.list.now))
-    c.each_profile.result
+    c.each_entry.result
     (subst (λ (o : Option (Bor (Vec Value Global))). optional as_list [] (table_view c.args.table.now) [] (codes "profile") (Ok (entries_of o))) c.in-Some.is c.in_ok-list.ensures)
-    c.in_ok-at_most.ensures c.each_profile.ensures
+    c.in_ok-at_most.ensures c.each_entry.ensures

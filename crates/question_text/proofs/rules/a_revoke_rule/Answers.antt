@@ -1,11 +1,9 @@
-use Rattle.std.proofs.Common.{None}
+use Rattle.std.proofs.Common.{None, refl, inl, inr}
 use Rattle.toml.specs.Data.{as_table}
 use Rattle.toml.specs.View.{table_view, view}
-use Rattle.question_text.specs.Tables.{a_revoke_rule, not_mixed_rule}
-use Rattle.question_text.specs.Parts.{revoke_parts}
+use Rattle.question_text.specs.Tables.{revoke_parts, a_revoke_rule, not_mixed_rule}
 use Rattle.question_text.proofs.KeyLemmas.{kind_seen}
 use Rattle.question_text.proofs.TableLemmas.{stops}
-use Rattle.question_text.proofs.RuleLemmas.{revoke_unread, revoke_refused, revoke_passed}
 use Rattle.question_text.proofs.rules.a_revoke_rule.Goals as goal
 
 pub returns-in_err-rule : goal.returns-in_err-rule
@@ -18,7 +16,7 @@ returns-in_err-rule c =
     let rule = table_view c.in_ok-table.table.now in
     let t = kind_seen (λ m. table_view m.now) c.as_table.result (as_table d) path c.in_ok-table.table c.as_table.ensures c.in_ok-table.ensures in
     stops _ (revoke_parts names rule path) (a_revoke_rule separate admins names path d) _ _ c.from_residual-in_err-rule.ensures.1
-    (λ fault h. revoke_unread separate admins names path d rule t fault h) c.in_err-rule.ensures
+    (λ fault h. inr (rule, t, inl (fault, h, refl))) c.in_err-rule.ensures
 
 pub returns-in_err-revoke_tests : goal.returns-in_err-revoke_tests
 returns-in_err-revoke_tests c =
@@ -30,7 +28,7 @@ returns-in_err-revoke_tests c =
     let rule = table_view c.in_ok-table.table.now in
     let t = kind_seen (λ m. table_view m.now) c.as_table.result (as_table d) path c.in_ok-table.table c.as_table.ensures c.in_ok-table.ensures in
     stops _ (not_mixed_rule separate admins c.in_ok-rule.rule.admin c.in_ok-rule.rule.range None path) (a_revoke_rule separate admins names path d) _ _ c.from_residual-in_err-revoke_tests.ensures.1
-    (λ fault h. revoke_refused separate admins names path d rule t (c.in_ok-rule.rule) c.in_ok-rule.ensures fault h) c.in_err-revoke_tests.ensures
+    (λ fault h. inr (rule, t, inr (c.in_ok-rule.rule, c.in_ok-rule.ensures, inl (fault, h, refl)))) c.in_err-revoke_tests.ensures
 
 pub returns : goal.returns
 returns c =
@@ -41,4 +39,4 @@ returns c =
     let d = view c.args.value.now in
     let rule = table_view c.in_ok-table.table.now in
     let t = kind_seen (λ m. table_view m.now) c.as_table.result (as_table d) path c.in_ok-table.table c.as_table.ensures c.in_ok-table.ensures in
-    revoke_passed separate admins names path d rule t (c.in_ok-rule.rule) c.in_ok-rule.ensures c.in_ok-revoke_tests.ensures
+    inr (rule, t, inr (c.in_ok-rule.rule, c.in_ok-rule.ensures, inr (tt, c.in_ok-revoke_tests.ensures, refl)))

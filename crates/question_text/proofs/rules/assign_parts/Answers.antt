@@ -1,7 +1,6 @@
 use Rattle.std.proofs.Common.{refl, inl, inr}
 use Rattle.toml.specs.View.{table_view}
-use Rattle.question_text.specs.Tables.{the_condition, the_range}
-use Rattle.question_text.specs.Parts.{assign_parts}
+use Rattle.question_text.specs.Tables.{assign_parts, the_condition, the_range}
 use Rattle.question_text.proofs.TableLemmas.{stops}
 use Rattle.question_text.proofs.rules.assign_parts.Goals as goal
 

@@ -11,6 +11,7 @@ use Rattle.question_text.specs.Keys.{list_of, as_list, optional}
 use Rattle.question_text.specs.Views.{entries_of}
 use Rattle.question_text.specs.Tables.{an_assign_rule}
 use Rattle.question_text.proofs.TableLemmas.{tables_stop, tables_end}
+use Rattle.question_text.proofs.SeenLemmas.{list_seen}
 use Rattle.question_text.proofs.TableLaws.{assigns_known, assigns_few}
 use Rattle.question_text.proofs.rules.assign_rules.Goals as goal
 
@@ -22,16 +23,19 @@ returns-in_err-at_most-clause-rules c =
 pub returns-clause-rules : goal.returns-clause-rules
 returns-clause-rules c =
     tables_end (λ rules. map plain_rule rules.items) MOST_RULES (an_assign_rule c.args.separate c.args.admins.now c.args.order.now.names) (table_view c.args.table.now) c.args.key.now
-    (list_of (array_view c.in-Some.list.now)) c.each_assign.result (subst (λ (o : Option (Bor (Vec Value Global))). optional as_list [] (table_view c.args.table.now) [] c.args.key.now (Ok (entries_of o))) c.in-Some.is c.in_ok-list.ensures) c.in_ok-at_most.ensures c.each_assign.ensures
+    (list_of (array_view c.in-Some.list.now)) c.each_entry.result (subst (λ (o : Option (Bor (Vec Value Global))). optional as_list [] (table_view c.args.table.now) [] c.args.key.now (Ok (entries_of o))) c.in-Some.is c.in_ok-list.ensures) c.in_ok-at_most.ensures
+    (list_seen plain_rule (an_assign_rule c.args.separate c.args.admins.now c.args.order.now.names) c.args.key.now (list_of (array_view c.in-Some.list.now)) c.each_entry.result c.each_entry.ensures)
 
 pub returns-clause-known : goal.returns-clause-known
 returns-clause-known c =
-    assigns_known c.args.separate c.args.admins.now c.args.order.now.names (table_view c.args.table.now) c.args.key.now c.each_assign.result
+    assigns_known c.args.separate c.args.admins.now c.args.order.now.names (table_view c.args.table.now) c.args.key.now c.each_entry.result
     (tables_end (λ rules. map plain_rule rules.items) MOST_RULES (an_assign_rule c.args.separate c.args.admins.now c.args.order.now.names) (table_view c.args.table.now) c.args.key.now
-    (list_of (array_view c.in-Some.list.now)) c.each_assign.result (subst (λ (o : Option (Bor (Vec Value Global))). optional as_list [] (table_view c.args.table.now) [] c.args.key.now (Ok (entries_of o))) c.in-Some.is c.in_ok-list.ensures) c.in_ok-at_most.ensures c.each_assign.ensures)
+    (list_of (array_view c.in-Some.list.now)) c.each_entry.result (subst (λ (o : Option (Bor (Vec Value Global))). optional as_list [] (table_view c.args.table.now) [] c.args.key.now (Ok (entries_of o))) c.in-Some.is c.in_ok-list.ensures) c.in_ok-at_most.ensures
+    (list_seen plain_rule (an_assign_rule c.args.separate c.args.admins.now c.args.order.now.names) c.args.key.now (list_of (array_view c.in-Some.list.now)) c.each_entry.result c.each_entry.ensures))
 
 pub returns-clause-few : goal.returns-clause-few
 returns-clause-few c =
-    assigns_few c.args.separate c.args.admins.now c.args.order.now.names (table_view c.args.table.now) c.args.key.now c.each_assign.result
+    assigns_few c.args.separate c.args.admins.now c.args.order.now.names (table_view c.args.table.now) c.args.key.now c.each_entry.result
     (tables_end (λ rules. map plain_rule rules.items) MOST_RULES (an_assign_rule c.args.separate c.args.admins.now c.args.order.now.names) (table_view c.args.table.now) c.args.key.now
-    (list_of (array_view c.in-Some.list.now)) c.each_assign.result (subst (λ (o : Option (Bor (Vec Value Global))). optional as_list [] (table_view c.args.table.now) [] c.args.key.now (Ok (entries_of o))) c.in-Some.is c.in_ok-list.ensures) c.in_ok-at_most.ensures c.each_assign.ensures)
+    (list_of (array_view c.in-Some.list.now)) c.each_entry.result (subst (λ (o : Option (Bor (Vec Value Global))). optional as_list [] (table_view c.args.table.now) [] c.args.key.now (Ok (entries_of o))) c.in-Some.is c.in_ok-list.ensures) c.in_ok-at_most.ensures
+    (list_seen plain_rule (an_assign_rule c.args.separate c.args.admins.now c.args.order.now.names) c.args.key.now (list_of (array_view c.in-Some.list.now)) c.each_entry.result c.each_entry.ensures))

@@ -1,7 +1,6 @@
 use Rattle.std.proofs.Common.{refl, inl, inr}
 use Rattle.toml.specs.View.{table_view}
-use Rattle.question_text.specs.Tables.{the_range}
-use Rattle.question_text.specs.Parts.{revoke_parts}
+use Rattle.question_text.specs.Tables.{revoke_parts, the_range}
 use Rattle.question_text.proofs.TableLemmas.{stops}
 use Rattle.question_text.proofs.rules.revoke_parts.Goals as goal
 

@@ -9,7 +9,7 @@ pub returns-clause-added : goal.returns-clause-added
 returns-clause-added c = record {
   place = search rules;
   room = omega (arith, map_long plain_rule c.args.self.now.assign.items, c.args.self.now.assign.ok.0, c.len.ensures);
-  gains = (
+  extends = (
     plain_rule (record { admin = c.in-Some.admin; cond = c.in_ok-cond.cond; range = c.in-Some-range_of.range }),
     sym c.in-Some.ensures.place,
     c.in-Some-range_of.ensures.some,

@@ -10,7 +10,7 @@ returns-clause-added c =
     record {
       place = search rules;
       room = omega (arith, count, c.args.self.now.names.ok.0, c.len.ensures);
-      gains = ap (λ (t : List (List ℕ)). record nothing { names = t; edges = c.args.self.now.edges.items })
+      extends = ap (λ (t : List (List ℕ)). record nothing { names = t; edges = c.args.self.now.edges.items })
           (ap texts c.in_ok-push.ensures.items ∙ texts-push c.args.self.now.names.items c.in_ok-from_str.field-0
           ∙ ap (λ (t : List ℕ). texts c.args.self.now.names.items ++ t ∷ []) c.in_ok-from_str.ensures.ok);
     }

@@ -8,7 +8,7 @@ use Rattle.policy_text.specs.Runs.{StandsFor}
 use Rattle.policy_text.specs.Steps.{listing_view, order_view, run_view}
 use Rattle.policy_text.proofs.RunLemmas.{few_nothing}
 use Rattle.policy_text.proofs.ReadLemmas.{headed, no_line_first, ahead_first, told_first, order_first, order_passes, body_first, stands, is_policy, is_countable, behind_head}
-use Rattle.policy_text.proofs.reading.read.Goals as goal
+use Rattle.policy_text.proofs.reading.read_short.Goals as goal
 
 pub returns-in_default-clause-first : goal.returns-in_default-clause-first
 returns-in_default-clause-first c = no_line_first c.args.bytes.now (sym c.in_default.ensures)

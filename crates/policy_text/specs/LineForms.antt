@@ -15,14 +15,14 @@ pub record NamedRange : Type 0 where
   pub high_open : Bool
 
 -- a line as it is written: its names by their texts, and its condition by its text
-pub data Shape : Type 0 where
-  a_role : List ℕ → Shape
-  an_edge : List ℕ → List ℕ → Shape
-  an_assign : List ℕ → NamedRange → List ℕ → Shape
-  a_revoke : List ℕ → NamedRange → Shape
-  a_user : List (List ℕ) → Shape
-  an_act : ActKind → ℕ → ℕ → List ℕ → Shape
-  a_goal : List ℕ → Shape
+pub data LineForm : Type 0 where
+  a_role : List ℕ → LineForm
+  an_edge : List ℕ → List ℕ → LineForm
+  an_assign : List ℕ → NamedRange → List ℕ → LineForm
+  a_revoke : List ℕ → NamedRange → LineForm
+  a_user : List (List ℕ) → LineForm
+  an_act : ActKind → ℕ → ℕ → List ℕ → LineForm
+  a_goal : List ℕ → LineForm
 
 abbrev pub IsName : List ℕ → Type 0
 IsName text = is_name text ≡ true
@@ -31,17 +31,17 @@ abbrev pub IsNamedRange : NamedRange → Type 0
 IsNamedRange range = IsName range.low × IsName range.high
 
 -- each name is a name, each number has 32 bits, and the condition is text
-abbrev pub IsShape : Shape → Type 0
-IsShape (a_role name) = IsName name
-IsShape (an_edge senior junior) = IsName senior × IsName junior
-IsShape (an_assign admin range condition) = IsName admin × IsNamedRange range × IsUtf8 condition
-IsShape (a_revoke admin range) = IsName admin × IsNamedRange range
-IsShape (a_user names) = Each IsName names
-IsShape (an_act kind admin target role) = (admin < 2 ^ 32) × (target < 2 ^ 32) × IsName role
-IsShape (a_goal condition) = IsUtf8 condition
+abbrev pub IsWellFormed : LineForm → Type 0
+IsWellFormed (a_role name) = IsName name
+IsWellFormed (an_edge senior junior) = IsName senior × IsName junior
+IsWellFormed (an_assign admin range condition) = IsName admin × IsNamedRange range × IsUtf8 condition
+IsWellFormed (a_revoke admin range) = IsName admin × IsNamedRange range
+IsWellFormed (a_user names) = Each IsName names
+IsWellFormed (an_act kind admin target role) = (admin < 2 ^ 32) × (target < 2 ^ 32) × IsName role
+IsWellFormed (a_goal condition) = IsUtf8 condition
 
 -- the line tells a role or an edge
-abbrev pub tells_order : Shape → Bool
+abbrev pub tells_order : LineForm → Bool
 tells_order (a_role name) = true
 tells_order (an_edge senior junior) = true
 tells_order (an_assign admin range condition) = false
@@ -51,7 +51,7 @@ tells_order (an_act kind admin target role) = false
 tells_order (a_goal condition) = false
 
 -- the bytes of the line's condition
-abbrev pub condition_of : Shape → List ℕ
+abbrev pub condition_of : LineForm → List ℕ
 condition_of (an_assign admin range condition) = condition
 condition_of (a_goal condition) = condition
 condition_of (a_role name) = []
@@ -76,7 +76,7 @@ spell_names [] = []
 spell_names (name ∷ names) = 32 ∷ (name ++ spell_names names)
 
 -- the bytes of the line, without its line feed
-unfoldable pub spell : Shape → List ℕ
+unfoldable pub spell : LineForm → List ℕ
 spell (a_role name) = codes "role " ++ name
 spell (an_edge senior junior) = codes "edge " ++ (senior ++ (32 ∷ junior))
 spell (an_assign admin range condition) = codes "assign " ++ (admin ++ (32 ∷ (spell_range range ++ (32 ∷ condition))))

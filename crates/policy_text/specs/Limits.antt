@@ -1,0 +1,10 @@
+-- The limits of a run text, by number.
+use Rattle.std.specs.Prelude.{◌≡◌}
+use Rattle.policy_text.specs.declared.TheConstants.{MOST_EDGES, MOST_RULES, MOST_USERS, MOST_ACTS, MOST_GOALS}
+
+pub record AreLimits : Type 0 where
+  pub edges : MOST_EDGES ≡ 10000
+  pub rules : MOST_RULES ≡ 1000
+  pub users : MOST_USERS ≡ 10000
+  pub acts : MOST_ACTS ≡ 100000
+  pub goals : MOST_GOALS ≡ 8

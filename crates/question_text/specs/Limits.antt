@@ -1,0 +1,8 @@
+-- The limits of a question document, by number.
+use Rattle.std.specs.Prelude.{◌≡◌}
+use Rattle.question_text.specs.declared.TheConstants.{MOST_PAIRS, MOST_PROFILES, MOST_OF_PROFILE}
+
+pub record AreLimits : Type 0 where
+  pub pairs : MOST_PAIRS ≡ 1000
+  pub profiles : MOST_PROFILES ≡ 1000
+  pub of_profile : MOST_OF_PROFILE ≡ 1000000
