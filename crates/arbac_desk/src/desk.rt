@@ -11,13 +11,11 @@ ghost use Rattle.arbac_desk.specs.Answers.{status_of, text_of, Wrote, WroteFront
 
 use crate::MOST_RUN_BYTES;
 use crate::faults::read_fault;
-use crate::reply::{Reply, reply_to};
+use crate::reply::reply_to;
+use crate::status::{NO_MEMORY, READ_FAULT, Status, USAGE, WRITE_FAULT};
 use crate::words::{run_named, usage};
 use desk_ports::{Shelf, ShelfError, Sink, SinkError};
 use std::alloc::{AllocError, Global};
-
-/// The number that the program exits with.
-pub type Status = u8;
 
 /// Writes the text, and gives the status where the sink took it all.
 fn say<O: Sink>(out: &mut O, text: &[u8], status: Status) -> Status
@@ -30,8 +28,8 @@ fn say<O: Sink>(out: &mut O, text: &[u8], status: Status) -> Status
 {
     match out.put(text) {
         Ok(()) => status,
-        Err(SinkError::Failed) => 5,
-        Err(SinkError::Memory) => 7,
+        Err(SinkError::Failed) => WRITE_FAULT,
+        Err(SinkError::Memory) => NO_MEMORY,
     }
 }
 
@@ -54,13 +52,13 @@ fn replay_file<H: Shelf, O: Sink>(alloc: Global, name: &str, shelf: &mut H, out:
     match shelf.fetch(name, MOST_RUN_BYTES as u32) {
         Ok(bytes) => match reply_to(alloc, name, &bytes) {
             Ok(reply) => say(out, reply.text(), reply.status()),
-            Err(_) => 7,
+            Err(_) => NO_MEMORY,
         },
         Err(ShelfError::Failed) => match read_fault(alloc, name) {
-            Ok(line) => say(out, &line, 4),
-            Err(_) => 7,
+            Ok(line) => say(out, &line, READ_FAULT),
+            Err(_) => NO_MEMORY,
         },
-        Err(ShelfError::Memory) => 7,
+        Err(ShelfError::Memory) => NO_MEMORY,
     }
 }
 
@@ -103,9 +101,12 @@ pub fn arbac_desk<H: Shelf, O: Sink>(
     ensures answered { (name : List ℕ) → named words.now ≡ Some name → IfSome (H.told shelf.old name) (λ bytes.
         (value : RunValue) → StandsFor bytes value → length bytes ≤ MOST_RUN_BYTES → ¬ Rose (H.faults shelf.old) (H.faults shelf.new) →
         ¬ Rose (O.faults out.old) (O.faults out.new) → (result ≡ 0) ⊎ ((result ≡ 21) ⊎ (result ≡ 7))) }
+
+    // The limit by number.
+    ensures limit { MOST_RUN_BYTES ≡ 1048576 }
 {
     match run_named(words) {
         Some(name) => replay_file(alloc, name, shelf, out),
-        None => say(out, usage().as_bytes(), 2),
+        None => say(out, usage().as_bytes(), USAGE),
     }
 }

@@ -4,12 +4,14 @@
 mod desk;
 mod faults;
 mod reply;
+mod status;
 #[cfg(test)]
 mod tests;
 mod texts;
 mod words;
 
-pub use desk::{Status, arbac_desk};
+pub use desk::arbac_desk;
+pub use status::Status;
 
 /// The greatest length of a run text, in bytes.
 pub const MOST_RUN_BYTES: usize = 1_048_576;

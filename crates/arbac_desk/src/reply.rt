@@ -10,6 +10,7 @@ ghost use Rattle.arbac_desk.specs.Answers.{status_of, text_of};
 
 use crate::MOST_RUN_BYTES;
 use crate::faults::{malformed, too_long};
+use crate::status::{DONE, MALFORMED, REFUSED, Status};
 use crate::texts::{done, stopped, unmet};
 use plan_replay::{Replayed, goal_met, replay};
 use policy_text::{Run, RunError, read_run};
@@ -31,14 +32,14 @@ pub enum Reply {
 
 impl Reply {
     /// The number of the reply in the table of statuses.
-    pub fn status(&self) -> u8
+    pub fn status(&self) -> Status
         ensures { result ≡ status_of self.now }
     {
         match self {
-            Reply::Done(_) => 0,
-            Reply::Unmet(_) => 21,
-            Reply::Stopped(_) => 21,
-            Reply::Malformed(_) => 3,
+            Reply::Done(_) => DONE,
+            Reply::Unmet(_) => REFUSED,
+            Reply::Stopped(_) => REFUSED,
+            Reply::Malformed(_) => MALFORMED,
         }
     }
 

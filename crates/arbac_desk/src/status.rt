@@ -1,0 +1,25 @@
+//! The statuses that the program exits with.
+
+/// A number of the table of statuses.
+pub type Status = u8;
+
+/// All acts were accepted, and the goal is met.
+pub const DONE: Status = 0;
+
+/// The words are of no written form.
+pub const USAGE: Status = 2;
+
+/// A file is too long, or isn't of its grammar.
+pub const MALFORMED: Status = 3;
+
+/// The shelf counted a fault.
+pub const READ_FAULT: Status = 4;
+
+/// The sink counted a fault.
+pub const WRITE_FAULT: Status = 5;
+
+/// No memory was left.
+pub const NO_MEMORY: Status = 7;
+
+/// An act was refused, or the goal isn't met.
+pub const REFUSED: Status = 21;
