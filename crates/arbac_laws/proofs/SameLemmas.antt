@@ -56,7 +56,7 @@ of_any P p h [] e = absurd e
 of_any P p h (x ∷ xs) (inl k) = rw (h x k) refl
 of_any P p h (x ∷ xs) (inr k) = or_right (p x) (list_any p xs) (of_any P p h xs k)
 
-pub covers_test : Need → Need → Bool
+unfoldable pub covers_test : Need → Need → Bool
 covers_test a b = list_all (λ hit. list_any (λ other. is_within (less_roles other b.lacks) hit) b.hits) a.hits && is_within a.lacks b.lacks
 
 pub covers_of_test : (a b : Need) → covers_test a b ≡ true → CoversNeed a b

@@ -12,3 +12,5 @@ pub mod ExclusionLemmas
 pub mod BlockingLemmas
 pub mod SettlingLemmas
 pub mod LeastLemmas
+pub mod OneLemmas
+pub mod EdgeLemmas

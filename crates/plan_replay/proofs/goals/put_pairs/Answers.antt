@@ -6,7 +6,8 @@ use Rattle.plan_replay.proofs.goals.put_pairs.Goals.{then-holds+in_ok-push, else
 use Rattle.arbac_policy.specs.Truth.{Satisfies, user}
 use Rattle.std.specs.Prelude.{slice_get}
 use Rattle.role_order.proofs.ListLemmas.{get_at}
-use Rattle.plan_replay.proofs.GoalLemmas.{pairs_more, pairs_same, pairs_whole}
+use Rattle.hall_match.proofs.EdgeLemmas.{place_more, place_same}
+use Rattle.plan_replay.proofs.GoalLemmas.{pairs_whole}
 use Rattle.plan_replay.proofs.goals.put_pairs.Goals as goal
 
 -- src/goals.rt:27:5
@@ -16,7 +17,7 @@ loop-user-preserved c =
     get_at c.args.population.now c.loop-user.user c.index-population-user.result c.loop-user-test.true ∙ ap Some (sym c.index-population-user.is) in
     elim c.if-holds.branch [
       | then-holds+in_ok-push w ↦ rw (w.pairs-is, w.in_ok-push.ensures.items)
-          (pairs_more c.args.pairs.now.items c.loop-user.pairs.items c.args.place c.loop-user.user (IsMetBy c.args.order.now.edges (term_of c.args.cond.now) c.args.population.now)
+          (place_more c.args.pairs.now.items c.loop-user.pairs.items c.args.place c.loop-user.user (IsMetBy c.args.order.now.edges (term_of c.args.cond.now) c.args.population.now)
           c.loop-user.invariant (c.index-population-user.result, there, c.holds.ensures.0 w.if-holds.true))
       | else-holds w ↦
           let unmet : IsMetBy c.args.order.now.edges (term_of c.args.cond.now) c.args.population.now c.loop-user.user → ⊥ = λ met.
@@ -25,7 +26,7 @@ loop-user-preserved c =
           cc
           in
           rw (w.pairs-is)
-          (pairs_same c.args.pairs.now.items c.loop-user.pairs.items c.args.place c.loop-user.user (IsMetBy c.args.order.now.edges (term_of c.args.cond.now) c.args.population.now)
+          (place_same c.args.pairs.now.items c.loop-user.pairs.items c.args.place c.loop-user.user (IsMetBy c.args.order.now.edges (term_of c.args.cond.now) c.args.population.now)
           c.loop-user.invariant unmet)
     ]
 
