@@ -1,0 +1,136 @@
+-- The normal form of a requirement, user by user.
+use Rattle.std.proofs.Common.{ℕ, ◌≡◌, ◌<◌, ◌≤◌, ◌∙◌, Bool, true, false, cond, List, [], ◌∷◌, ◌++◌, length, map, get_or, Some, zero, suc, refl, ap, sym, subst, arith, take, drop}
+use Rattle.std.specs.Prelude.{slice_get, insert, None}
+use Rattle.std.specs.List.{list_any}
+use Rattle.std.proofs.lemmas.Bool.Decides.{nat_tests}
+use Rattle.role_order.specs.Lists.{Each}
+use Rattle.role_order.proofs.ListLemmas.{each_of, get_any, get_within}
+use Rattle.arbac_laws.specs.Needs.{Need}
+use Rattle.arbac_laws.specs.Orders.{need_before}
+use Rattle.arbac_laws.specs.PreImages.{is_empty}
+use Rattle.arbac_laws.specs.NormalForms.{AreFormPlaces, AreSorted, IsNormal, IsNormalNeed, bare_hits, insert_by, is_impossible, normal_form, normal_need, sort_by}
+use Rattle.arbac_laws.proofs.FormPlaceLemmas.{are_places, goes, one_form_place, places_of, pushed, spot}
+use Rattle.arbac_laws.proofs.MapLemmas.{get_below, get_there, some_cond}
+use Rattle.arbac_laws.proofs.OrderLemmas.{need_order}
+use Rattle.arbac_laws.proofs.PlaceLemmas.{told}
+use Rattle.arbac_laws.proofs.SortLemmas.{insert_by_in, sort_sorted}
+use Rattle.req_core.specs.declared.raw.RawUser.{RawUser}
+use Rattle.req_core.specs.Forms.{IsPlaced, moved}
+use Rattle.req_core.specs.Raw.{need_of, needs_of}
+use Rattle.req_core.proofs.HitLemmas.{any_map, drop_here}
+
+-- one item put in
+
+pub insert_at : {A : Type 0} (before : A → A → Bool) (x : A) (ys : List A) (at : ℕ) → at ≤ length ys → ((k : ℕ) (y : A) → k < at → slice_get ys k ≡ Some y → before y x ≡ true)
+    → ((y : A) → slice_get ys at ≡ Some y → before y x ≡ false) → insert ys at x ≡ insert_by before x ys
+insert_at before x [] zero l b here = refl
+insert_at before x [] (suc at) l b here = absurd (omega arith)
+insert_at before x (y ∷ ys) zero l b here = rw (here y refl) refl
+insert_at before x (y ∷ ys) (suc at) l b here =
+    rw (b 0 y (omega arith) refl) (ap (λ t. y ∷ t) (insert_at before x ys at (omega arith) (λ k z less e. b (suc k) z (omega arith) e) here))
+
+pub spot_at : {A : Type 0} (before : A → A → Bool) (x : A) (ys : List A) (at : ℕ) → at ≤ length ys → ((k : ℕ) (y : A) → k < at → slice_get ys k ≡ Some y → before y x ≡ true)
+    → ((y : A) → slice_get ys at ≡ Some y → before y x ≡ false) → at ≡ spot before x ys
+spot_at before x [] zero l b here = refl
+spot_at before x [] (suc at) l b here = absurd (omega arith)
+spot_at before x (y ∷ ys) zero l b here = rw (here y refl) refl
+spot_at before x (y ∷ ys) (suc at) l b here = rw (b 0 y (omega arith) refl) (ap suc (spot_at before x ys at (omega arith) (λ k z less e. b (suc k) z (omega arith) e) here))
+
+-- the other places
+
+-- what a loop that goes over a list and changes each item has not yet changed
+pub unchanged : {A : Type 0} (f : A → A) (xs ys : List A) (i : ℕ) (d : A) → i < length ys → ys ≡ map f (take i xs) ++ drop i xs → slice_get xs i ≡ Some (get_or ys i d)
+unchanged f [] ys zero d l e = absurd (let long = ap length e in omega (arith, long, l))
+unchanged f [] ys (suc i) d l e = absurd (let long = ap length e in omega (arith, long, l))
+unchanged f (x ∷ xs) ys zero d l e = rw e refl
+unchanged f (x ∷ xs) ys (suc i) d l e = rw e (unchanged f xs (map f (take i xs) ++ drop i xs) i d (let long = ap length e in omega (arith, long, l)) refl)
+
+moved_pushed : (at p : ℕ) → moved at p ≡ pushed at p
+moved_pushed zero p = grind (arith, nat_tests)
+moved_pushed (suc at) zero = grind (arith, nat_tests)
+moved_pushed (suc at) (suc p) = let rest = moved_pushed at p in grind (arith, nat_tests, rest)
+
+all_moved : (at : ℕ) (to : ℕ → ℕ) (n : ℕ) → map (moved at) (told to n) ≡ told (λ i. pushed at (to i)) n
+all_moved at to zero = refl
+all_moved at to (suc n) =
+    ap (λ p. p ∷ map (moved at) (told (λ i. to (suc i)) n)) (moved_pushed at (to 0)) ∙ ap (λ t. pushed at (to 0) ∷ t) (all_moved at (λ i. to (suc i)) n)
+
+pub places_below : (needs form : List Need) (places : List ℕ) → AreFormPlaces needs form places → Each (λ place. place < length form) places
+places_below needs form places s = each_of (λ place. place < length form) places (λ k place e.
+    let within = get_within places k place e in
+    let long = s.at.long in
+    let need = get_there needs k (omega (arith, within.0, long)) in
+    let one = s.at.each k need.0 need.1 in
+    let below = get_below form (get_or places k 0) one.0 one.1 in
+    let same = within.1 ∙ get_any places k place 0 within.0 in
+    omega (arith, below, same))
+
+-- one user more
+
+pub one_placed : (needs form : List Need) (places : List ℕ) (need user : Need) (at : ℕ) → normal_need need ≡ user → at ≤ length form
+    → ((k : ℕ) (other : Need) → k < at → slice_get form k ≡ Some other → need_before other user ≡ true)
+    → ((other : Need) → slice_get form at ≡ Some other → need_before other user ≡ false)
+    → IsPlaced needs form places → IsPlaced (need ∷ needs) (insert_by need_before user form) (at ∷ map (moved at) places)
+one_placed needs form places need user at same within before here p = record { sorted = sorted; stand = placed }
+  where
+    sorted : insert_by need_before user form ≡ sort_by need_before (map normal_need (need ∷ needs))
+    sorted = ap (λ v. insert_by need_before v form) (sym same) ∙ ap (insert_by need_before (normal_need need)) p.sorted
+
+    told_before : places ≡ places_of needs
+    told_before = one_form_place needs form places (places_of needs) p.stand (subst (λ f. AreFormPlaces needs f (places_of needs)) (sym p.sorted) (are_places needs))
+
+    there : at ≡ spot need_before (normal_need need) (sort_by need_before (map normal_need needs))
+    there = spot_at need_before user form at within before here ∙ ap (λ v. spot need_before v form) (sym same) ∙ ap (spot need_before (normal_need need)) p.sorted
+
+    told_now : at ∷ map (moved at) places ≡ places_of (need ∷ needs)
+    told_now =
+        ap (λ t. at ∷ map (moved at) t) told_before ∙ ap (λ t. at ∷ t) (all_moved at (goes normal_need need_before needs) (length needs))
+        ∙ ap (λ a. a ∷ told (λ i. pushed a (goes normal_need need_before needs i)) (length needs)) there
+
+    placed : AreFormPlaces (need ∷ needs) (insert_by need_before user form) (at ∷ map (moved at) places)
+    placed = subst (λ t. AreFormPlaces (need ∷ needs) (insert_by need_before user form) t) (sym told_now)
+        (subst (λ f. AreFormPlaces (need ∷ needs) f (places_of (need ∷ needs))) (sym sorted) (are_places (need ∷ needs)))
+
+-- the users from one on
+
+pub record IsForm (needs form : List Need) (places : List ℕ) : Type 0 where
+  pub placed : IsPlaced needs form places
+  pub possible : is_impossible needs ≡ false
+  pub normal : Each IsNormalNeed form
+
+pub one_user : (raw : List RawUser) (i j : ℕ) (one : RawUser) (user : Need) (form more : List Need) (places others : List ℕ) → j ≡ suc i → slice_get raw i ≡ Some one
+    → Some user ≡ cond (list_any is_empty (bare_hits (need_of one))) None (Some (normal_need (need_of one))) → IsNormalNeed user
+    → IsForm (needs_of (drop j raw)) form places → more ≡ insert_by need_before user form
+    → ((needs : List Need) (need : Need) → normal_need need ≡ user → IsPlaced needs form places → IsPlaced (need ∷ needs) more others)
+    → IsForm (needs_of (drop i raw)) more others
+one_user raw i j one user form more places others next e made normal f is placed =
+    subst (λ (v : List RawUser). IsForm (needs_of v) more others) (sym (drop_here raw i one e)) (record {
+      placed = placed (needs_of (drop (suc i) raw)) (need_of one) both.1 g.placed;
+      possible = let here = both.0 in let rest = g.possible in rw (here, rest) refl;
+      normal = subst (λ v. Each IsNormalNeed v) (sym is) (insert_by_in need_before IsNormalNeed user form g.normal normal);
+    })
+  where
+    both : (list_any is_empty (bare_hits (need_of one)) ≡ false) × (normal_need (need_of one) ≡ user)
+    both = some_cond (list_any is_empty (bare_hits (need_of one))) (normal_need (need_of one)) user (sym made)
+
+    g : IsForm (needs_of (drop (suc i) raw)) form places
+    g = subst (λ n. IsForm (needs_of (drop n raw)) form places) next f
+
+-- the end
+
+pub form_normal : (needs form : List Need) (places : List ℕ) → IsForm needs form places → IsNormal form
+form_normal needs form places f = record {
+  each = f.normal;
+  sorted = subst (AreSorted need_before) (sym f.placed.sorted) (sort_sorted need_before need_order (map normal_need needs));
+}
+
+pub form_none : (raw : List RawUser) (i : ℕ) (one : RawUser) → slice_get raw i ≡ Some one
+    → None ≡ cond (list_any is_empty (bare_hits (need_of one))) None (Some (normal_need (need_of one))) → None ≡ normal_form (needs_of raw)
+form_none raw i one e made =
+    let bad = stops (list_any is_empty (bare_hits (need_of one))) (normal_need (need_of one)) made in
+    let all : is_impossible (needs_of raw) ≡ true = any_map (λ need. list_any is_empty (bare_hits need)) need_of raw i one e bad in
+    rw all refl
+  where
+    stops : {A : Type 0} (t : Bool) (x : A) → None ≡ cond t None (Some x) → t ≡ true
+    stops true x e = refl
+    stops false x e = cc

@@ -1,0 +1,8 @@
+-- The lemmas of the proofs.
+pub mod BeforeLemmas
+pub mod CoverLemmas
+pub mod FormLemmas
+pub mod HitLemmas
+pub mod MeetLemmas
+pub mod PairLemmas
+pub mod ServeLemmas

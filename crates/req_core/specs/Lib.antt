@@ -1,0 +1,5 @@
+pub mod Answers
+pub mod Covering
+pub mod Forms
+pub mod Raw
+pub mod Serving

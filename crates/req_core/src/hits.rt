@@ -1,0 +1,117 @@
+//! The normal form of one user requirement.
+
+ghost use Rattle.std.specs.Prelude.{◌≡◌, ◌<◌, ◌≤◌, true, false, if◌then◌else◌, ℕ, List, length, slice_get, Option, Some, None, IfOk, IfSome, OnOk, option_map};
+ghost use Rattle.std.specs.List.{list_any};
+ghost use Rattle.role_order.specs.Orders.{set_before};
+ghost use Rattle.arbac_laws.specs.PreImages.{is_empty};
+ghost use Rattle.arbac_laws.specs.NormalForms.{bare_hits as bare, is_less as less, least_hits, insert_once, sort_once, normal_need, AreSets, IsNormalNeed};
+ghost use Rattle.role_order.specs.Roles.{Rises};
+ghost use Rattle.req_core.specs.Raw.{need_of};
+
+use crate::raw::RawUser;
+use crate::req::UserReq;
+use role_order::RoleSet;
+use std::alloc::{AllocError, Global};
+
+/// The same set, which is known to rise.
+fn known(set: &RoleSet) -> RoleSet
+    ensures set { result ≡ set.now }
+    ensures rises { Rises set.now }
+{
+    let _ = set.has(0);
+    *set
+}
+
+/// The hits without the lacks; none where one of them has no role left.
+fn bare_hits(alloc: Global, raw: &RawUser) -> Result<Option<Vec<RoleSet>>, AllocError>
+    ensures hits { IfOk result (λ hits. option_map (λ list. list.items) hits
+        ≡ (if list_any is_empty (bare (need_of raw.now)) then None else Some (bare (need_of raw.now)))) }
+    ensures sets { IfOk result (λ hits. IfSome hits (λ _. AreSets (need_of raw.now))) }
+{
+    let lacks = known(&raw.lacks);
+    let mut hits = Vec::new(alloc);
+    for hit in &raw.hits {
+        let rest = known(hit).less(&lacks);
+        if rest.within(&RoleSet::empty()) {
+            return Ok(None);
+        }
+        hits.push(rest)?;
+    }
+    Ok(Some(hits))
+}
+
+/// Whether it lies within the other, and not the other way round.
+fn is_less(hit: &RoleSet, other: &RoleSet) -> bool
+    ensures { result ≡ less hit.now other.now }
+{
+    hit.within(other) && !other.within(hit)
+}
+
+/// Whether a different hit lies within it.
+fn some_less(hits: &[RoleSet], hit: &RoleSet) -> bool
+    ensures { result ≡ list_any (λ other. less other hit.now) hits.now }
+{
+    hits.iter().any(|other| is_less(other, hit))
+}
+
+/// The place of the first hit that isn't before this one.
+fn place_of(hits: &[RoleSet], hit: &RoleSet) -> usize
+    ensures within { result ≤ length hits.now }
+    ensures before { (k : ℕ) (other : List ℕ) → k < result → slice_get hits.now k ≡ Some other → set_before other hit.now ≡ true }
+    ensures here { (other : List ℕ) → slice_get hits.now result ≡ Some other → set_before other hit.now ≡ false }
+{
+    hits.iter()
+        .position(|other| !other.before(hit))
+        .unwrap_or(hits.len())
+}
+
+/// Puts the hit in its place, if it isn't there.
+fn insert(hits: &mut Vec<RoleSet>, hit: &RoleSet) -> Result<(), AllocError>
+    ensures { OnOk result (hits.new.items ≡ insert_once set_before hit.now hits.old.items) }
+{
+    let at = place_of(hits, hit);
+    if at == hits.len() || hit.before(&hits[at]) {
+        hits.insert(at, *hit)?;
+    }
+    Ok(())
+}
+
+/// Puts the hit in its place, if no different one lies within it.
+fn add_least(list: &mut Vec<RoleSet>, hits: &[RoleSet], hit: &RoleSet) -> Result<(), AllocError>
+    ensures { OnOk result (list.new.items ≡ (if list_any (λ other. less other hit.now) hits.now
+        then list.old.items else insert_once set_before hit.now list.old.items)) }
+{
+    if !some_less(hits, hit) {
+        insert(list, hit)?;
+    }
+    Ok(())
+}
+
+/// The hits within which no different one lies, sorted, each of them once.
+fn least_sorted(alloc: Global, hits: &[RoleSet]) -> Result<Vec<RoleSet>, AllocError>
+    ensures { IfOk result (λ list. list.items ≡ sort_once set_before (least_hits hits.now)) }
+{
+    let mut list = Vec::new(alloc);
+    for at in (0..hits.len()).rev() {
+        add_least(&mut list, hits, &hits[at])?;
+    }
+    Ok(list)
+}
+
+/// The user requirement in normal form; none where a hit has no role left.
+pub(crate) fn normal_user(alloc: Global, raw: &RawUser) -> Result<Option<UserReq>, AllocError>
+    ensures need { IfOk result (λ user. user
+        ≡ (if list_any is_empty (bare (need_of raw.now)) then None else Some (normal_need (need_of raw.now)))) }
+    ensures normal { IfOk result (λ user. IfSome user IsNormalNeed) }
+{
+    match bare_hits(alloc, raw)? {
+        None => Ok(None),
+        Some(hits) => {
+            let hits = least_sorted(alloc, &hits)?;
+            Ok(Some(UserReq {
+                hits,
+                lacks: raw.lacks,
+            }))
+        }
+    }
+}
