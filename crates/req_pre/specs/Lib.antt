@@ -1,0 +1,5 @@
+pub mod Preparing
+pub mod Combining
+pub mod Views
+pub mod Answers
+pub mod Owing

@@ -1,0 +1,16 @@
+-- Obligations as the laws see them.
+use Rattle.arbac_laws.specs.PreImages.{Pick as Picked, itself, other, fresh}
+use Rattle.arbac_laws.specs.Obligations.{Obligation as Owed, assigns, revokes}
+use Rattle.req_pre.specs.declared.owed.Pick.{Pick}
+use Rattle.req_pre.specs.declared.owed.Pick.TheVariants.{Itself, Other, Fresh}
+use Rattle.req_pre.specs.declared.owed.Obligation.{Obligation}
+use Rattle.req_pre.specs.declared.owed.Obligation.TheVariants.{Assign, Weak}
+
+abbrev pub pick_of : Pick → Picked
+pick_of Itself = itself
+pick_of (Other place) = other place
+pick_of Fresh = fresh
+
+abbrev pub owed_of : Obligation → Owed
+owed_of (Assign rule conjunct role target admin) = assigns rule conjunct role target (pick_of admin)
+owed_of (Weak rule role target admin) = revokes rule role target (pick_of admin)

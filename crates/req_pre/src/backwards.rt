@@ -1,0 +1,375 @@
+//! Pre-images.
+
+ghost use Rattle.std.specs.Prelude.{ℕ, ◌≡◌, ◌<◌, ◌++◌, [], ◌∷◌, not, if◌then◌else◌, length, map, filter, slice_get, slice_set, option_map, IfOk, IfSome, OnOk};
+ghost use Rattle.std.specs.List.{list_any};
+ghost use Rattle.role_order.specs.Lists.{Each};
+ghost use Rattle.role_order.specs.Reach.{seniors_of};
+ghost use Rattle.role_order.specs.Roles.{has_role, join_roles, without_role};
+ghost use Rattle.arbac_policy.specs.declared.rule.CanAssign.{CanAssign};
+ghost use Rattle.arbac_policy.specs.declared.rule.CanRevoke.{CanRevoke};
+ghost use Rattle.arbac_policy.specs.Rules.{IsKnownPair};
+ghost use Rattle.arbac_laws.specs.Obligations.{and_then, assigns, revokes};
+ghost use Rattle.arbac_laws.specs.NormalForms.{normal_form, pre_form, AreFormPlaces};
+ghost use Rattle.arbac_laws.specs.PreImages.{is_barred as are_barred, barred as all_barred, before_assign as assigned, before_weak as weakened, is_empty as has_none, add_hit as and_hit, change_at, with_admin};
+ghost use Rattle.arbac_rules.specs.Views.{need_of as wanted_of};
+ghost use Rattle.req_core.specs.Answers.{form_in};
+ghost use Rattle.req_core.specs.Raw.{need_of, needs_of};
+ghost use Rattle.req_pre.specs.Preparing.{conjuncts_of};
+ghost use Rattle.req_pre.specs.Views.{owed_of, pick_of};
+ghost use Rattle.req_pre.specs.Answers.{ArePrePlaces};
+
+use crate::owed::{Obligation, Pick};
+use crate::prepared::Prepared;
+use arbac_policy::Policy;
+use arbac_rules::Conjunct;
+use req_core::{Normal, RawUser, Req, UserReq, normal};
+use role_order::{Order, RoleSet};
+use std::alloc::{AllocError, Global};
+
+/// Whether the role is above both roles of a pair.
+fn is_barred(order: &Order, role: u16, pairs: &[(u16, u16)]) -> bool
+    requires { Each (IsKnownPair (length order.now.names)) pairs.now }
+    ensures { result ≡ are_barred order.now role pairs.now }
+{
+    for &pair in pairs {
+        if order.seniors(pair.0).has(role) && order.seniors(pair.1).has(role) {
+            return true;
+        }
+    }
+    false
+}
+
+/// What is above the second, where the role is above the first.
+fn barred_by(order: &Order, role: u16, first: u16, second: u16) -> RoleSet
+    requires first { first < length order.now.names }
+    requires second { second < length order.now.names }
+    ensures { result ≡ (if has_role (seniors_of order.now first) role then seniors_of order.now second else []) }
+{
+    if order.seniors(first).has(role) {
+        order.seniors(second)
+    } else {
+        RoleSet::empty()
+    }
+}
+
+/// What the pairs bar from whoever is given the role.
+fn barred(order: &Order, role: u16, pairs: &[(u16, u16)]) -> RoleSet
+    requires { Each (IsKnownPair (length order.now.names)) pairs.now }
+    ensures { result ≡ all_barred order.now role pairs.now }
+{
+    let mut all = RoleSet::empty();
+    for at in (0..pairs.len()).rev() {
+        let pair = pairs[at];
+        let second = barred_by(order, role, pair.1, pair.0).join(&all);
+        all = barred_by(order, role, pair.0, pair.1).join(&second);
+    }
+    all
+}
+
+/// The hits that don't have the role.
+fn other_hits(alloc: Global, role: u16, hits: &[RoleSet]) -> Result<Vec<RoleSet>, AllocError>
+    ensures { IfOk result (λ list. list.items ≡ filter (λ hit. not (has_role hit role)) hits.now) }
+{
+    let mut list = Vec::new(alloc);
+    for hit in hits {
+        if !hit.has(role) {
+            list.push(*hit)?;
+        }
+    }
+    Ok(list)
+}
+
+/// What the target must meet before it is given the role, which no pair bars from it.
+fn before_given(
+    alloc: Global,
+    policy: &Policy,
+    conjunct: &Conjunct,
+    role: u16,
+    user: &UserReq,
+) -> Result<RawUser, AllocError>
+    ensures hits { IfOk result (λ raw. (need_of raw).hits
+        ≡ filter (λ hit. not (has_role hit role)) user.now.hits ++ (wanted_of conjunct.now).hits) }
+    ensures lacks { IfOk result (λ raw. (need_of raw).lacks ≡ join_roles user.now.lacks
+        (join_roles (wanted_of conjunct.now).lacks (all_barred policy.now.order role policy.now.exclusive))) }
+{
+    let mut hits = other_hits(alloc, role, user.hits())?;
+    hits.extend_from_slice(&conjunct.hits)?;
+    let bars = barred(policy.order(), role, policy.exclusive());
+    let lacks = user.lacks().join(&conjunct.lacks.join(&bars));
+    Ok(RawUser { hits, lacks })
+}
+
+/// What the target must meet before it is given the role.
+fn before_assign(
+    alloc: Global,
+    policy: &Policy,
+    conjunct: &Conjunct,
+    role: u16,
+    user: &UserReq,
+) -> Result<Option<RawUser>, AllocError>
+    ensures { IfOk result (λ raw. option_map need_of raw ≡ assigned policy.now (wanted_of conjunct.now) role user.now) }
+{
+    if user.lacks().has(role) || is_barred(policy.order(), role, policy.exclusive()) {
+        return Ok(None);
+    }
+    let raw = before_given(alloc, policy, conjunct, role, user)?;
+    Ok(Some(raw))
+}
+
+/// Whether the set has no other role.
+fn is_alone(hit: &RoleSet, role: u16) -> bool
+    ensures { result ≡ has_none (without_role hit.now role) }
+{
+    hit.without(role).within(&RoleSet::empty())
+}
+
+/// Whether some hit has no other role.
+fn has_alone(hits: &[RoleSet], role: u16) -> bool
+    ensures { result ≡ list_any (λ hit. has_none (without_role hit role)) hits.now }
+{
+    hits.iter().any(|hit| is_alone(hit, role))
+}
+
+/// The hits without the role.
+fn hits_without(alloc: Global, role: u16, hits: &[RoleSet]) -> Result<Vec<RoleSet>, AllocError>
+    ensures { IfOk result (λ list. list.items ≡ map (λ hit. without_role hit role) hits.now) }
+{
+    let mut list = Vec::new(alloc);
+    for hit in hits {
+        list.push(hit.without(role))?;
+    }
+    Ok(list)
+}
+
+/// What the target must meet before it loses the role.
+fn before_weak(alloc: Global, role: u16, user: &UserReq) -> Result<Option<RawUser>, AllocError>
+    ensures { IfOk result (λ raw. option_map need_of raw ≡ weakened role user.now) }
+{
+    if has_alone(user.hits(), role) {
+        return Ok(None);
+    }
+    let hits = hits_without(alloc, role, user.hits())?;
+    let lacks = user.lacks().without(role);
+    Ok(Some(RawUser { hits, lacks }))
+}
+
+/// The user requirement in a value of its own.
+fn raw_user(alloc: Global, user: &UserReq) -> Result<RawUser, AllocError>
+    ensures { IfOk result (λ raw. need_of raw ≡ user.now) }
+{
+    let mut hits = Vec::new(alloc);
+    hits.extend_from_slice(user.hits())?;
+    Ok(RawUser {
+        hits,
+        lacks: *user.lacks(),
+    })
+}
+
+/// The user requirements in values of their own.
+fn raw_users(alloc: Global, req: &Req) -> Result<Vec<RawUser>, AllocError>
+    ensures { IfOk result (λ raw. needs_of raw.items ≡ req.now) }
+{
+    let users = req.users();
+    let mut raw = Vec::new(alloc);
+    for user in users {
+        raw.push(raw_user(alloc, user)?)?;
+    }
+    Ok(raw)
+}
+
+/// One more hit for the user.
+fn and_one(user: &mut RawUser, hit: RoleSet) -> Result<(), AllocError>
+    ensures { OnOk result (need_of user.new ≡ and_hit hit (need_of user.old)) }
+{
+    user.hits.insert(0, hit)?;
+    Ok(())
+}
+
+/// One more hit for the user at the place, if one is there.
+fn add_hit(raw: &mut Vec<RawUser>, at: u32, hit: RoleSet) -> Result<(), AllocError>
+    ensures { OnOk result (needs_of raw.new.items ≡ change_at at (and_hit hit) (needs_of raw.old.items)) }
+{
+    if (at as usize) < raw.len() {
+        and_one(&mut raw[at as usize], hit)?;
+    }
+    Ok(())
+}
+
+/// A new user of whom only the hit is wanted.
+fn add_fresh(alloc: Global, raw: &mut Vec<RawUser>, hit: RoleSet) -> Result<(), AllocError>
+    ensures { OnOk result (needs_of raw.new.items ≡ needs_of raw.old.items ++ record { hits = hit ∷ []; lacks = [] } ∷ []) }
+{
+    let mut hits = Vec::new(alloc);
+    hits.push(hit)?;
+    raw.push(RawUser {
+        hits,
+        lacks: RoleSet::empty(),
+    })?;
+    Ok(())
+}
+
+/// The administrator is to meet the hit too.
+fn add_admin(
+    alloc: Global,
+    raw: &mut Vec<RawUser>,
+    admin: Pick,
+    target: u32,
+    hit: RoleSet,
+) -> Result<(), AllocError>
+    ensures { OnOk result (needs_of raw.new.items ≡ with_admin (pick_of admin) target hit (needs_of raw.old.items)) }
+{
+    match admin {
+        Pick::Itself => add_hit(raw, target, hit),
+        Pick::Other(place) => add_hit(raw, place, hit),
+        Pick::Fresh => add_fresh(alloc, raw, hit),
+    }
+}
+
+/// The target is to meet this in place of what it was to meet.
+fn exchange(raw: &mut Vec<RawUser>, target: u32, before: RawUser)
+    requires { target < length raw.old.items }
+    ensures { needs_of raw.new.items ≡ slice_set (needs_of raw.old.items) target (need_of before) }
+{
+    raw[target as usize] = before;
+}
+
+/// The requirement with the target's part exchanged and the administrator's hit, in normal form.
+fn exchanged(
+    alloc: Global,
+    req: &Req,
+    before: RawUser,
+    target: u32,
+    admin: Pick,
+    hit: RoleSet,
+) -> Result<Option<Normal>, AllocError>
+    requires { target < length req.now }
+    ensures form { IfOk result (λ normal. form_in normal
+        ≡ normal_form (with_admin (pick_of admin) target hit (slice_set req.now target (need_of before)))) }
+    ensures places { IfOk result (λ normal. IfSome normal (λ n.
+        AreFormPlaces (with_admin (pick_of admin) target hit (slice_set req.now target (need_of before))) n.req n.places.items)) }
+{
+    let mut raw = raw_users(alloc, req)?;
+    exchange(&mut raw, target, before);
+    add_admin(alloc, &mut raw, admin, target, hit)?;
+    let form = normal(alloc, &raw)?;
+    Ok(form)
+}
+
+/// The roles one of which the administrator needs, by the rule of `can_assign` at the place.
+fn givers(policy: &Policy, rule: u32) -> Option<RoleSet>
+    ensures { result ≡ option_map (λ (rule : CanAssign). seniors_of policy.now.order rule.admin) (slice_get policy.now.assign rule) }
+{
+    let order = policy.order();
+    match policy.assign().get(rule as usize) {
+        Some(rule) => Some(order.seniors(rule.admin)),
+        None => None,
+    }
+}
+
+/// The roles one of which the administrator needs, by the rule of `can_revoke` at the place.
+fn takers(policy: &Policy, rule: u32) -> Option<RoleSet>
+    ensures { result ≡ option_map (λ (rule : CanRevoke). seniors_of policy.now.order rule.admin) (slice_get policy.now.revoke rule) }
+{
+    let order = policy.order();
+    match policy.revoke().get(rule as usize) {
+        Some(rule) => Some(order.seniors(rule.admin)),
+        None => None,
+    }
+}
+
+/// The conjunct at the place, of the rule of `can_assign` at its place.
+fn conjunct_at(prepared: &Prepared, rule: u32, conjunct: u32) -> Option<&Conjunct>
+    ensures { option_map (λ one. wanted_of one.now) result
+        ≡ and_then (slice_get prepared.now.assign rule) (λ rule. slice_get (conjuncts_of prepared.now rule) conjunct) }
+{
+    match prepared.conjuncts_at(rule as usize) {
+        Some(list) => list.get(conjunct as usize),
+        None => None,
+    }
+}
+
+/// Before the rule of `can_assign` gives the role, its condition met by the conjunct.
+fn pre_assign(
+    alloc: Global,
+    prepared: &Prepared,
+    req: &Req,
+    rule: u32,
+    conjunct: u32,
+    role: u16,
+    target: u32,
+    admin: Pick,
+) -> Result<Option<Normal>, AllocError>
+    ensures form { IfOk result (λ normal. form_in normal ≡ pre_form prepared.now req.now (assigns rule conjunct role target (pick_of admin))) }
+    ensures places { IfOk result (λ normal. IfSome normal (ArePrePlaces prepared.now req.now (assigns rule conjunct role target (pick_of admin)))) }
+{
+    let policy = prepared.policy();
+    let Some(hit) = givers(policy, rule) else {
+        return Ok(None);
+    };
+    let Some(one) = conjunct_at(prepared, rule, conjunct) else {
+        return Ok(None);
+    };
+    let Some(user) = req.users().get(target as usize) else {
+        return Ok(None);
+    };
+    let Some(before) = before_assign(alloc, policy, one, role, user)? else {
+        return Ok(None);
+    };
+    let form = exchanged(alloc, req, before, target, admin, hit)?;
+    Ok(form)
+}
+
+/// Before the rule of `can_revoke` takes the role away.
+fn pre_weak(
+    alloc: Global,
+    prepared: &Prepared,
+    req: &Req,
+    rule: u32,
+    role: u16,
+    target: u32,
+    admin: Pick,
+) -> Result<Option<Normal>, AllocError>
+    ensures form { IfOk result (λ normal. form_in normal ≡ pre_form prepared.now req.now (revokes rule role target (pick_of admin))) }
+    ensures places { IfOk result (λ normal. IfSome normal (ArePrePlaces prepared.now req.now (revokes rule role target (pick_of admin)))) }
+{
+    let Some(hit) = takers(prepared.policy(), rule) else {
+        return Ok(None);
+    };
+    let Some(user) = req.users().get(target as usize) else {
+        return Ok(None);
+    };
+    let Some(before) = before_weak(alloc, role, user)? else {
+        return Ok(None);
+    };
+    let form = exchanged(alloc, req, before, target, admin, hit)?;
+    Ok(form)
+}
+
+/// What a population must meet before the act of the obligation, in normal form; none exactly where nothing will
+/// do, or where one of its places isn't there. `places` says where the users of the requirement went, and behind
+/// them a new administrator.
+pub fn pre(
+    alloc: Global,
+    prepared: &Prepared,
+    req: &Req,
+    ob: &Obligation,
+) -> Result<Option<Normal>, AllocError>
+    ensures form { IfOk result (λ normal. form_in normal ≡ pre_form prepared.now req.now (owed_of ob.now)) }
+    ensures places { IfOk result (λ normal. IfSome normal (ArePrePlaces prepared.now req.now (owed_of ob.now))) }
+{
+    match *ob {
+        Obligation::Assign {
+            rule,
+            conjunct,
+            role,
+            target,
+            admin,
+        } => pre_assign(alloc, prepared, req, rule, conjunct, role, target, admin),
+        Obligation::Weak {
+            rule,
+            role,
+            target,
+            admin,
+        } => pre_weak(alloc, prepared, req, rule, role, target, admin),
+    }
+}
