@@ -1,4 +1,5 @@
 pub mod Needs
+pub mod Views
 pub mod Conjuncts
 pub mod Goals
 pub mod PreImages

@@ -5,8 +5,8 @@ use Rattle.std.proofs.lemmas.List.{append-nil, map_push}
 use Rattle.role_order.proofs.ListLemmas.{take_all, take_one_more}
 use Rattle.arbac_laws.specs.Needs.{Need}
 use Rattle.arbac_laws.specs.Conjuncts.{join_all, join_needs, join_with}
-use Rattle.arbac_rules.specs.declared.conjunct.Conjunct.{Conjunct}
-use Rattle.arbac_rules.specs.Views.{need_of, needs_of}
+use Rattle.arbac_policy.specs.declared.conjunct.Conjunct.{Conjunct}
+use Rattle.arbac_laws.specs.Views.{need_of, needs_of}
 
 pub get_needs : (xs : List Conjunct) (i : ℕ) (x : Conjunct) → i < length xs → x ≡ get_or xs i x → slice_get (needs_of xs) i ≡ Some (need_of x)
 get_needs [] i x h e = absurd (omega arith)

@@ -1,50 +1,42 @@
-//! Conjuncts, and lists of them.
+//! Lists of conjuncts.
 
 ghost use Rattle.std.specs.Prelude.{◌≡◌, ◌++◌, [], ◌∷◌, IfOk, OnOk};
 ghost use Rattle.arbac_laws.specs.Conjuncts.{join_needs, join_with, join_all};
-ghost use Rattle.arbac_rules.specs.Views.{need_of, needs_of, need_of_any, need_of_has, need_of_lacks};
+ghost use Rattle.arbac_laws.specs.Views.{need_of, needs_of};
 
+use arbac_policy::Conjunct;
 use role_order::RoleSet;
 use std::alloc::{AllocError, Global};
 
-/// What one user must be: the set of a user meets it with a role of each hit and none of the lacks.
-#[derive(Drop)]
-pub struct Conjunct {
-    pub hits: Vec<RoleSet>,
-    pub lacks: RoleSet,
+/// The conjunct of `any`, that each set meets.
+pub fn of_any(alloc: Global) -> Conjunct
+    ensures { need_of result ≡ record { hits = []; lacks = [] } }
+{
+    Conjunct {
+        hits: Vec::new(alloc),
+        lacks: RoleSet::empty(),
+    }
 }
 
-impl Conjunct {
-    /// The conjunct of `any`, that each set meets.
-    pub fn of_any(alloc: Global) -> Conjunct
-        ensures { need_of result ≡ need_of_any }
-    {
-        Conjunct {
-            hits: Vec::new(alloc),
-            lacks: RoleSet::empty(),
-        }
-    }
+/// The conjunct that wants a role of the set.
+pub fn of_has(alloc: Global, hit: RoleSet) -> Result<Conjunct, AllocError>
+    ensures { IfOk result (λ one. need_of one ≡ record { hits = hit ∷ []; lacks = [] }) }
+{
+    let mut hits = Vec::new(alloc);
+    hits.push(hit)?;
+    Ok(Conjunct {
+        hits,
+        lacks: RoleSet::empty(),
+    })
+}
 
-    /// The conjunct that wants a role of the set.
-    pub fn of_has(alloc: Global, hit: RoleSet) -> Result<Conjunct, AllocError>
-        ensures { IfOk result (λ one. need_of one ≡ need_of_has hit) }
-    {
-        let mut hits = Vec::new(alloc);
-        hits.push(hit)?;
-        Ok(Conjunct {
-            hits,
-            lacks: RoleSet::empty(),
-        })
-    }
-
-    /// The conjunct that bars the roles of the set.
-    pub fn of_lacks(alloc: Global, lacks: RoleSet) -> Conjunct
-        ensures { need_of result ≡ need_of_lacks lacks }
-    {
-        Conjunct {
-            hits: Vec::new(alloc),
-            lacks,
-        }
+/// The conjunct that bars the roles of the set.
+pub fn of_lacks(alloc: Global, lacks: RoleSet) -> Conjunct
+    ensures { need_of result ≡ record { hits = []; lacks = lacks } }
+{
+    Conjunct {
+        hits: Vec::new(alloc),
+        lacks,
     }
 }
 

@@ -4,12 +4,13 @@ ghost use Rattle.std.specs.Prelude.{◌≡◌, ◌≤◌, ◌<◌, length, IfOk,
 ghost use Rattle.arbac_policy.specs.Truth.{term_of, IsKnown};
 ghost use Rattle.cond_text.specs.Grammar.{term_count};
 ghost use Rattle.arbac_laws.specs.Conjuncts.{conjuncts as conjuncts_law};
-ghost use Rattle.arbac_rules.specs.Views.{needs_of, IsTooWide};
+ghost use Rattle.arbac_laws.specs.Views.{needs_of};
+ghost use Rattle.arbac_rules.specs.Views.{IsTooWide};
 
 use crate::MOST_CONJUNCTS;
-use crate::conjunct::{Conjunct, added_lists, joined_lists, list_of};
+use crate::conjunct::{added_lists, joined_lists, list_of, of_any, of_has, of_lacks};
 use crate::width::width_of;
-use arbac_policy::Cond;
+use arbac_policy::{Cond, Conjunct};
 use cond_text::MOST_TERMS;
 use role_order::Order;
 use std::alloc::{AllocError, Global};
@@ -30,9 +31,9 @@ fn list_all(alloc: Global, order: &Order, cond: &Cond) -> Result<Vec<Conjunct>, 
         ≡ conjuncts_law order.now (term_of cond.now)) }
 {
     match cond {
-        Cond::Any => Ok(list_of(alloc, Conjunct::of_any(alloc))?),
-        Cond::Has(role) => Ok(list_of(alloc, Conjunct::of_has(alloc, order.seniors(*role))?)?),
-        Cond::Lacks(role) => Ok(list_of(alloc, Conjunct::of_lacks(alloc, order.seniors(*role)))?),
+        Cond::Any => Ok(list_of(alloc, of_any(alloc))?),
+        Cond::Has(role) => Ok(list_of(alloc, of_has(alloc, order.seniors(*role))?)?),
+        Cond::Lacks(role) => Ok(list_of(alloc, of_lacks(alloc, order.seniors(*role)))?),
         Cond::And(left, right) => {
             let lefts = list_all(alloc, order, left.get())?;
             let rights = list_all(alloc, order, right.get())?;

@@ -3,7 +3,7 @@ use Rattle.std.proofs.Common.{ℕ, ◌≡◌, ◌<◌, ◌≤◌, ◌+◌, List,
 use Rattle.std.specs.Prelude.{◌⊎◌, Contains}
 use Rattle.std.specs.List.{list_any}
 use Rattle.std.proofs.lemmas.Bool.{cases_order, false≢true}
-use Rattle.hall_match.specs.Holding.{is_at, given_at, holders}
+use Rattle.hall_match.specs.Holding.{is_at, given_at, holder_count}
 use Rattle.hall_match.specs.Matchings.{IsMatching, capacity_at, capacity_of, uses}
 use Rattle.hall_match.specs.Rows.{HaveEdges}
 use Rattle.hall_match.specs.Search.{Instance, IsSeen, IsClosed}
@@ -93,7 +93,7 @@ excluded s left edges seen other rows whole inside free agrees closed m here =
   where
     limit : (place : ℕ) → IsSeen seen place
         → (most : ℕ) × (capacity_at s.capacities place ≡ Some most)
-    limit place e = let r = full_limit (capacity_at s.capacities place) (holders place s.given)
+    limit place e = let r = full_limit (capacity_at s.capacities place) (holder_count place s.given)
         (closed.full place e) in (r.0, r.1)
 
     kept : (k : ℕ) → k < length s.given → is_seen_at seen (given_at s.given k) ≡ true

@@ -14,3 +14,4 @@ pub mod SettlingLemmas
 pub mod LeastLemmas
 pub mod OneLemmas
 pub mod EdgeLemmas
+pub mod JoinedLemmas

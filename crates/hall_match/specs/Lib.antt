@@ -2,6 +2,7 @@ pub mod Blocking
 pub mod Chains
 pub mod Holding
 pub mod Matchings
+pub mod Joined
 pub mod Outcome
 pub mod Rows
 pub mod Search

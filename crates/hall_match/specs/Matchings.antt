@@ -3,8 +3,8 @@ use Rattle.std.specs.Prelude.{ℕ, ◌≡◌, ◌<◌, ◌≤◌, ◌↔◌, ◌
 use Rattle.std.specs.List.Sorted.{IsStrictlyIncreasing}
 
 -- each edge leads from an item below the number to a place that has a capacity
-abbrev pub AreEdges : ℕ → List (Option ℕ) → List (ℕ × ℕ) → Type 0
-AreEdges left capacities edges = All (λ edge. (edge.0 < left) × (edge.1 < length capacities)) edges
+abbrev pub ArePairsWithin : ℕ → List (Option ℕ) → List (ℕ × ℕ) → Type 0
+ArePairsWithin left capacities edges = All (λ edge. (edge.0 < left) × (edge.1 < length capacities)) edges
 
 -- how many items the place may be given to; none is no limit
 abbrev pub capacity_at : List (Option ℕ) → ℕ → Option ℕ

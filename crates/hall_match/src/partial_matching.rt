@@ -2,7 +2,7 @@
 
 ghost use Rattle.std.specs.Prelude.{ℕ, ◌≡◌, ◌<◌, ◌^◌, length, slice_index, slice_set, Some, None, IfOk};
 ghost use Rattle.std.specs.Prelude.{replicate};
-ghost use Rattle.hall_match.specs.Holding.{given_at, holders, has_room};
+ghost use Rattle.hall_match.specs.Holding.{given_at, holder_count, has_room};
 
 use std::alloc::{AllocError, Global};
 
@@ -15,7 +15,7 @@ pub struct PartialMatching {
     pub ghost inside: { (item place : ℕ) → given_at given.items item ≡ Some place →
         place < length used.items },
     pub ghost counted: { (place : ℕ) → place < length used.items →
-        slice_index used.items place ≡ holders place given.items },
+        slice_index used.items place ≡ holder_count place given.items },
 }
 
 impl PartialMatching {

@@ -2,7 +2,7 @@
 //! later items.
 
 ghost use Rattle.std.specs.Prelude.{◌≡◌, ◌+◌, ◌<◌, true, false, MatchBool, length, slice_set, slice_index_or, ◌∷◌, ◌++◌, [], Contains, IfOk, OnOk};
-ghost use Rattle.hall_match.specs.Rows.{lists, row_at, AreInside, AreRising};
+ghost use Rattle.hall_match.specs.Rows.{lists, row_at, AreInside, RowsRise};
 ghost use Rattle.hall_match.specs.Search.{instance, IsRowSeen, IsClosed, IsSearch, IsFound, GoesOn, IsUserAt, IsReady, IsFoundFrom, IsClosedWith, IsOutcome};
 
 use crate::partial_matching::PartialMatching;
@@ -176,7 +176,7 @@ pub fn find_path(
     item: u32,
 ) -> Result<Found, AllocError>
     requires item { item < length rows.now }
-    requires rising { AreRising (lists rows.now) }
+    requires rising { RowsRise (lists rows.now) }
     requires ready { let s = instance capacities.now rows.now held.now.given.items item in
         IsReady s held.now.used.items users.now.last.items users.now.before.items }
     ensures { let s = instance capacities.now rows.now held.now.given.items item in

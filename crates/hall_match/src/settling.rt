@@ -2,7 +2,7 @@
 
 ghost use Rattle.std.specs.Prelude.{◌≡◌, ◌<◌, length, None, MatchOption, IfOk, OnOk};
 ghost use Rattle.hall_match.specs.Holding.{given_at, IsPartialMatching};
-ghost use Rattle.hall_match.specs.Rows.{lists, AreInside, AreRising};
+ghost use Rattle.hall_match.specs.Rows.{lists, AreInside, RowsRise};
 ghost use Rattle.hall_match.specs.Search.{instance, IsClosedRow};
 ghost use Rattle.hall_match.specs.Settling.{Settles};
 
@@ -24,7 +24,7 @@ pub fn settle(
     requires whole { length held.old.given.items ≡ length rows.now }
     requires places { length held.old.used.items ≡ length capacities.now }
     requires inside { AreInside (lists rows.now) (length capacities.now) }
-    requires rising { AreRising (lists rows.now) }
+    requires rising { RowsRise (lists rows.now) }
     requires held { IsPartialMatching capacities.now (lists rows.now) held.old.given.items }
     requires free { given_at held.old.given.items item ≡ None }
     ensures places { OnOk result (length held.new.used.items ≡ length held.old.used.items) }

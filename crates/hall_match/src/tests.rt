@@ -1,7 +1,7 @@
 //! Known answers, and all small cases against every list in turn.
 
 ghost use Rattle.std.specs.Prelude.{◌≡◌, true};
-ghost use Rattle.hall_match.specs.Matchings.{AreEdges};
+ghost use Rattle.hall_match.specs.Matchings.{ArePairsWithin};
 
 use super::*;
 use std::alloc::{AllocError, Global};
@@ -114,7 +114,7 @@ const LISTS: [[u32; 3]; 8] = [
 ];
 
 fn are_edges(left: u32, capacities: &[Option<u32>], edges: &[(u32, u32)]) -> bool
-    ensures { result ≡ true → AreEdges left capacities.now edges.now }
+    ensures { result ≡ true → ArePairsWithin left capacities.now edges.now }
 {
     for (item, place) in edges {
         if *item >= left || *place as usize >= capacities.len() {

@@ -6,8 +6,9 @@ use Rattle.role_order.specs.Lists.{Each}
 use Rattle.role_order.specs.Roles.{Rises, less_roles, is_within}
 use Rattle.arbac_laws.specs.Needs.{IsPossibleNeed, Need}
 use Rattle.arbac_laws.specs.PreImages.{is_empty}
-use Rattle.arbac_laws.specs.NormalForms.{AreSets, IsNormalNeed, bare_hits, insert_once, least_hits, normal_need, sort_once}
+use Rattle.arbac_laws.specs.NormalForms.{AreSets, IsNormalNeed, bare_hits, insert_by, insert_once, least_hits, normal_need, sort_once}
 use Rattle.role_order.specs.Orders.{set_before}
+use Rattle.req_core.specs.Forms.{IsSpot}
 use Rattle.arbac_laws.proofs.MapLemmas.{some_cond}
 use Rattle.arbac_laws.proofs.NormalLemmas.{normal_is_normal, not_possible}
 
@@ -35,22 +36,32 @@ any_map p f (y ∷ ys) (suc i) x e h = rw (any_map p f ys i x e h) (by_test (p (
 pub bare_stops : (need : Need) (i : ℕ) (hit : List ℕ) → slice_get need.hits i ≡ Some hit → is_empty (less_roles hit need.lacks) ≡ true → list_any is_empty (bare_hits need) ≡ true
 bare_stops need i hit e h = any_map is_empty (λ hit. less_roles hit need.lacks) need.hits i hit e h
 
--- one hit put in its place
+-- one item put in its place
 
-pub insert_new : {A : Type 0} (before : A → A → Bool) (x : A) (ys : List A) (at : ℕ) → at ≤ length ys → ((k : ℕ) (y : A) → k < at → slice_get ys k ≡ Some y → before y x ≡ true)
-    → ((y : A) → slice_get ys at ≡ Some y → before y x ≡ false) → ((y : A) → slice_get ys at ≡ Some y → before x y ≡ true) → insert ys at x ≡ insert_once before x ys
-insert_new before x [] zero l b here after = refl
-insert_new before x [] (suc at) l b here after = absurd (omega arith)
-insert_new before x (y ∷ ys) zero l b here after = rw (here y refl, after y refl) refl
-insert_new before x (y ∷ ys) (suc at) l b here after =
-    rw (b 0 y (omega arith) refl) (ap (λ t. y ∷ t) (insert_new before x ys at (omega arith) (λ k z less e. b (suc k) z (omega arith) e) here after))
+pub later : {A : Type 0} (before : A → A → Bool) (x y : A) (ys : List A) (at : ℕ) → IsSpot before x (y ∷ ys) (suc at) → IsSpot before x ys at
+later before x y ys at spot = record { within = let l = spot.within in omega (arith, l); earlier = λ k z less e. spot.earlier (suc k) z (omega arith) e; here = spot.here }
 
-pub insert_kept : {A : Type 0} (before : A → A → Bool) (x : A) (ys : List A) (at : ℕ) (y : A) → ((k : ℕ) (z : A) → k < at → slice_get ys k ≡ Some z → before z x ≡ true)
-    → slice_get ys at ≡ Some y → before y x ≡ false → before x y ≡ false → ys ≡ insert_once before x ys
-insert_kept before x [] at y b e here after = cc
-insert_kept before x (z ∷ zs) zero y b e here after = let same : z ≡ y = cc in rw (same, here, after) refl
-insert_kept before x (z ∷ zs) (suc at) y b e here after =
-    rw (b 0 z (omega arith) refl) (ap (λ t. z ∷ t) (insert_kept before x zs at y (λ k v less f. b (suc k) v (omega arith) f) e here after))
+pub insert_at : {A : Type 0} (before : A → A → Bool) (x : A) (ys : List A) (at : ℕ) → IsSpot before x ys at → insert ys at x ≡ insert_by before x ys
+insert_at before x [] zero spot = refl
+insert_at before x [] (suc at) spot = let l = spot.within in absurd (omega (arith, l))
+insert_at before x (y ∷ ys) zero spot = let here = spot.here y refl in rw here refl
+insert_at before x (y ∷ ys) (suc at) spot =
+    let first = spot.earlier 0 y (omega arith) refl in rw first (ap (λ t. y ∷ t) (insert_at before x ys at (later before x y ys at spot)))
+
+pub insert_new : {A : Type 0} (before : A → A → Bool) (x : A) (ys : List A) (at : ℕ) → IsSpot before x ys at
+    → ((y : A) → slice_get ys at ≡ Some y → before x y ≡ true) → insert ys at x ≡ insert_once before x ys
+insert_new before x [] zero spot after = refl
+insert_new before x [] (suc at) spot after = let l = spot.within in absurd (omega (arith, l))
+insert_new before x (y ∷ ys) zero spot after = let here = spot.here y refl in rw (here, after y refl) refl
+insert_new before x (y ∷ ys) (suc at) spot after =
+    let first = spot.earlier 0 y (omega arith) refl in rw first (ap (λ t. y ∷ t) (insert_new before x ys at (later before x y ys at spot) after))
+
+pub insert_kept : {A : Type 0} (before : A → A → Bool) (x : A) (ys : List A) (at : ℕ) (y : A) → IsSpot before x ys at
+    → slice_get ys at ≡ Some y → before x y ≡ false → ys ≡ insert_once before x ys
+insert_kept before x [] at y spot e after = cc
+insert_kept before x (z ∷ zs) zero y spot e after = let same : z ≡ y = cc in let here = spot.here z refl in rw (here, same, after) refl
+insert_kept before x (z ∷ zs) (suc at) y spot e after =
+    let first = spot.earlier 0 z (omega arith) refl in rw first (ap (λ t. z ∷ t) (insert_kept before x zs at y (later before x z zs at spot) e after))
 
 -- the least hits from a place on
 

@@ -7,25 +7,14 @@ ghost use Rattle.arbac_laws.specs.Orders.{need_before};
 ghost use Rattle.arbac_laws.specs.NormalForms.{normal_form, normal_need, insert_by, AreFormPlaces};
 ghost use Rattle.req_core.specs.Answers.{form_in};
 ghost use Rattle.req_core.specs.Forms.{moved, IsPlaced};
-ghost use Rattle.req_core.specs.Raw.{needs_of};
+ghost use Rattle.arbac_laws.specs.Views.{needs_of};
 
+use crate::RawUser;
 use crate::answers::Normal;
 use crate::hits::normal_user;
-use crate::raw::RawUser;
 use crate::req::{Req, UserReq};
+use crate::sorted::place_of;
 use std::alloc::{AllocError, Global};
-
-/// The place of the first user requirement that isn't before this one.
-fn place_of(users: &[UserReq], user: &UserReq) -> usize
-    ensures within { result ≤ length users.now }
-    ensures before { (k : ℕ) (other : Need) → k < result → slice_get users.now k ≡ Some other → need_before other user.now ≡ true }
-    ensures here { (other : Need) → slice_get users.now result ≡ Some other → need_before other user.now ≡ false }
-{
-    users
-        .iter()
-        .position(|other| !other.before(user))
-        .unwrap_or(users.len())
-}
 
 /// One place further, from this place on.
 fn move_on(place: &mut u32, at: u32)

@@ -6,10 +6,11 @@ ghost use Rattle.role_order.specs.Orders.{set_before};
 ghost use Rattle.arbac_laws.specs.PreImages.{is_empty};
 ghost use Rattle.arbac_laws.specs.NormalForms.{bare_hits as bare, is_less as less, least_hits, insert_once, sort_once, normal_need, AreSets, IsNormalNeed};
 ghost use Rattle.role_order.specs.Roles.{Rises};
-ghost use Rattle.req_core.specs.Raw.{need_of};
+ghost use Rattle.arbac_laws.specs.Views.{need_of};
 
-use crate::raw::RawUser;
+use crate::RawUser;
 use crate::req::UserReq;
+use crate::sorted::{Ranked, place_of};
 use role_order::RoleSet;
 use std::alloc::{AllocError, Global};
 
@@ -54,15 +55,12 @@ fn some_less(hits: &[RoleSet], hit: &RoleSet) -> bool
     hits.iter().any(|other| is_less(other, hit))
 }
 
-/// The place of the first hit that isn't before this one.
-fn place_of(hits: &[RoleSet], hit: &RoleSet) -> usize
-    ensures within { result ≤ length hits.now }
-    ensures before { (k : ℕ) (other : List ℕ) → k < result → slice_get hits.now k ≡ Some other → set_before other hit.now ≡ true }
-    ensures here { (other : List ℕ) → slice_get hits.now result ≡ Some other → set_before other hit.now ≡ false }
-{
-    hits.iter()
-        .position(|other| !other.before(hit))
-        .unwrap_or(hits.len())
+impl Ranked for RoleSet {
+    ghost before = { set_before };
+
+    fn is_before(&self, other: &RoleSet) -> bool {
+        self.before(other)
+    }
 }
 
 /// Puts the hit in its place, if it isn't there.
@@ -98,6 +96,15 @@ fn least_sorted(alloc: Global, hits: &[RoleSet]) -> Result<Vec<RoleSet>, AllocEr
     Ok(list)
 }
 
+/// The user requirement of hits and lacks in normal form.
+fn made(hits: Vec<RoleSet>, lacks: RoleSet) -> UserReq
+    requires { IsNormalNeed (record { hits = hits.items; lacks = lacks }) }
+    ensures need { result ≡ record { hits = hits.items; lacks = lacks } }
+    ensures normal { IsNormalNeed result }
+{
+    UserReq { hits, lacks }
+}
+
 /// The user requirement in normal form; none where a hit has no role left.
 pub(crate) fn normal_user(alloc: Global, raw: &RawUser) -> Result<Option<UserReq>, AllocError>
     ensures need { IfOk result (λ user. user
@@ -108,10 +115,7 @@ pub(crate) fn normal_user(alloc: Global, raw: &RawUser) -> Result<Option<UserReq
         None => Ok(None),
         Some(hits) => {
             let hits = least_sorted(alloc, &hits)?;
-            Ok(Some(UserReq {
-                hits,
-                lacks: raw.lacks,
-            }))
+            Ok(Some(made(hits, raw.lacks)))
         }
     }
 }

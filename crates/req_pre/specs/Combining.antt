@@ -3,8 +3,8 @@ use Rattle.std.specs.Prelude.{ℕ, ◌≡◌, ◌*◌, nat_lt, if◌then◌else�
 use Rattle.std.specs.declared.alloc.Global.{Global}
 use Rattle.arbac_policy.specs.Truth.{Term}
 use Rattle.arbac_laws.specs.Needs.{Need}
-use Rattle.req_core.specs.declared.raw.RawUser.{RawUser}
-use Rattle.req_core.specs.Raw.{needs_of}
+use Rattle.arbac_policy.specs.declared.conjunct.Conjunct.{Conjunct}
+use Rattle.arbac_laws.specs.Views.{needs_of}
 use Rattle.arbac_rules.specs.declared.TheConstants.{MOST_CONJUNCTS}
 use Rattle.arbac_rules.specs.Widths.{width}
 use Rattle.arbac_rules.specs.declared.listing.WideError.{WideError}
@@ -17,10 +17,6 @@ too_many combinations [] = None
 too_many combinations (cond ∷ conds) =
     if nat_lt MOST_CONJUNCTS (combinations * width cond) then Some (combinations * width cond)
     else too_many (combinations * width cond) conds
-
--- raw requirements as they are seen
-abbrev pub raws_of : List (Vec RawUser Global) → List (List Need)
-raws_of raws = map (λ raw. needs_of raw.items) raws
 
 -- the error tells that number
 abbrev pub IsTooMany : List Term → WideError → Type 0

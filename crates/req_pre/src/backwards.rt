@@ -11,15 +11,15 @@ ghost use Rattle.arbac_policy.specs.Rules.{IsKnownPair};
 ghost use Rattle.arbac_laws.specs.Obligations.{and_then, assigns, revokes};
 ghost use Rattle.arbac_laws.specs.NormalForms.{normal_form, pre_form, AreFormPlaces};
 ghost use Rattle.arbac_laws.specs.PreImages.{is_barred as are_barred, barred as all_barred, before_assign as assigned, before_weak as weakened, is_empty as has_none, add_hit as and_hit, change_at, with_admin};
-ghost use Rattle.arbac_rules.specs.Views.{need_of as wanted_of};
 ghost use Rattle.req_core.specs.Answers.{form_in};
-ghost use Rattle.req_core.specs.Raw.{need_of, needs_of};
+ghost use Rattle.arbac_laws.specs.Views.{need_of, needs_of};
 ghost use Rattle.req_pre.specs.Preparing.{conjuncts_of};
 ghost use Rattle.req_pre.specs.Views.{owed_of, pick_of};
 ghost use Rattle.req_pre.specs.Answers.{ArePrePlaces};
 
 use crate::owed::{Obligation, Pick};
 use crate::prepared::Prepared;
+use crate::raw::raw_user;
 use arbac_policy::Policy;
 use arbac_rules::Conjunct;
 use req_core::{Normal, RawUser, Req, UserReq, normal};
@@ -88,9 +88,9 @@ fn before_given(
     user: &UserReq,
 ) -> Result<RawUser, AllocError>
     ensures hits { IfOk result (λ raw. (need_of raw).hits
-        ≡ filter (λ hit. not (has_role hit role)) user.now.hits ++ (wanted_of conjunct.now).hits) }
+        ≡ filter (λ hit. not (has_role hit role)) user.now.hits ++ (need_of conjunct.now).hits) }
     ensures lacks { IfOk result (λ raw. (need_of raw).lacks ≡ join_roles user.now.lacks
-        (join_roles (wanted_of conjunct.now).lacks (all_barred policy.now.order role policy.now.exclusive))) }
+        (join_roles (need_of conjunct.now).lacks (all_barred policy.now.order role policy.now.exclusive))) }
 {
     let mut hits = other_hits(alloc, role, user.hits())?;
     hits.extend_from_slice(&conjunct.hits)?;
@@ -107,7 +107,7 @@ fn before_assign(
     role: u16,
     user: &UserReq,
 ) -> Result<Option<RawUser>, AllocError>
-    ensures { IfOk result (λ raw. option_map need_of raw ≡ assigned policy.now (wanted_of conjunct.now) role user.now) }
+    ensures { IfOk result (λ raw. option_map need_of raw ≡ assigned policy.now (need_of conjunct.now) role user.now) }
 {
     if user.lacks().has(role) || is_barred(policy.order(), role, policy.exclusive()) {
         return Ok(None);
@@ -153,18 +153,6 @@ fn before_weak(alloc: Global, role: u16, user: &UserReq) -> Result<Option<RawUse
     Ok(Some(RawUser { hits, lacks }))
 }
 
-/// The user requirement in a value of its own.
-fn raw_user(alloc: Global, user: &UserReq) -> Result<RawUser, AllocError>
-    ensures { IfOk result (λ raw. need_of raw ≡ user.now) }
-{
-    let mut hits = Vec::new(alloc);
-    hits.extend_from_slice(user.hits())?;
-    Ok(RawUser {
-        hits,
-        lacks: *user.lacks(),
-    })
-}
-
 /// The user requirements in values of their own.
 fn raw_users(alloc: Global, req: &Req) -> Result<Vec<RawUser>, AllocError>
     ensures { IfOk result (λ raw. needs_of raw.items ≡ req.now) }
@@ -172,7 +160,7 @@ fn raw_users(alloc: Global, req: &Req) -> Result<Vec<RawUser>, AllocError>
     let users = req.users();
     let mut raw = Vec::new(alloc);
     for user in users {
-        raw.push(raw_user(alloc, user)?)?;
+        raw.push(raw_user(alloc, user.hits(), user.lacks())?)?;
     }
     Ok(raw)
 }
@@ -279,7 +267,7 @@ fn takers(policy: &Policy, rule: u32) -> Option<RoleSet>
 
 /// The conjunct at the place, of the rule of `can_assign` at its place.
 fn conjunct_at(prepared: &Prepared, rule: u32, conjunct: u32) -> Option<&Conjunct>
-    ensures { option_map (λ one. wanted_of one.now) result
+    ensures { option_map (λ one. need_of one.now) result
         ≡ and_then (slice_get prepared.now.assign rule) (λ rule. slice_get (conjuncts_of prepared.now rule) conjunct) }
 {
     match prepared.conjuncts_at(rule as usize) {

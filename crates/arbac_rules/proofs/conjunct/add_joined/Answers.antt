@@ -1,7 +1,7 @@
 use Rattle.std.proofs.Common.{◌++◌, ◌∙◌, ap, sym}
 use Rattle.std.proofs.lemmas.List.{append-nil}
 use Rattle.arbac_laws.specs.Conjuncts.{join_with}
-use Rattle.arbac_rules.specs.Views.{need_of, needs_of}
+use Rattle.arbac_laws.specs.Views.{need_of, needs_of}
 use Rattle.arbac_rules.proofs.JoinLemmas.{added_one, get_needs, take_needs}
 use Rattle.arbac_rules.proofs.conjunct.add_joined.Goals as goal
 

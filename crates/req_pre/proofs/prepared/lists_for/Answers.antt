@@ -3,9 +3,10 @@ use Rattle.std.specs.Prelude.{slice_get}
 use Rattle.role_order.proofs.ListLemmas.{get_at, get_within, below_more, each_of}
 use Rattle.arbac_policy.specs.declared.rule.CanAssign.{CanAssign}
 use Rattle.arbac_rules.specs.declared.TheConstants.{MOST_CONJUNCTS}
-use Rattle.arbac_rules.specs.declared.conjunct.Conjunct.{Conjunct}
+use Rattle.arbac_policy.specs.declared.conjunct.Conjunct.{Conjunct}
 use Rattle.arbac_rules.specs.declared.listing.WideError.TheVariants.{TooWide}
-use Rattle.arbac_rules.specs.Views.{needs_of, IsTooWide as IsTooWideList}
+use Rattle.arbac_laws.specs.Views.{needs_of}
+use Rattle.arbac_rules.specs.Views.{IsTooWide as IsTooWideList}
 use Rattle.req_pre.specs.Preparing.{conjuncts_of, IsWide}
 use Rattle.req_pre.proofs.PreparedLemmas.{wide_first, narrow_here, mapped_more}
 use Rattle.req_pre.proofs.prepared.lists_for.Goals as goal

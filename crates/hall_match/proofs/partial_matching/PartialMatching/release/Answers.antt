@@ -1,7 +1,7 @@
 use Rattle.std.proofs.Common.{ℕ, ◌≡◌, ◌-◌, Option, Some, None, length, arith, ◌∙◌, sym}
 use Rattle.std.proofs.lemmas.List.{length-set, get_or_read}
 use Rattle.hall_match.specs.Holding.{given_at}
-use Rattle.hall_match.proofs.HoldingLemmas.{holders-release, counted_release, inside_release}
+use Rattle.hall_match.proofs.HoldingLemmas.{holder_count-release, counted_release, inside_release}
 use Rattle.hall_match.proofs.partial_matching.PartialMatching.release.Goals as goal
 
 pub index_mut-requires-in-Some : goal.index_mut-requires-in-Some
@@ -24,7 +24,7 @@ overflow_sub-index_mut c =
     let read = get_or_read held.used.items place c.index_mut-in-Some.result.now inside
     c.index_mut-in-Some.ensures.value 0 in
     let count = held.counted place inside in
-    let one = holders-release held.given.items c.args.item place was in omega
+    let one = holder_count-release held.given.items c.args.item place was in omega
     (arith, read, count, one)
 
 pub invariant_of-self : goal.invariant_of-self

@@ -1,8 +1,9 @@
 use Rattle.std.proofs.Common.{◌≡◌, ◌∙◌, ap, sym, map, Some}
 use Rattle.std.specs.Prelude.{slice_get}
-use Rattle.req_pre.specs.Preparing.{conjuncts_of, lists_of}
+use Rattle.req_pre.specs.Preparing.{conjuncts_of}
+use Rattle.req_pre.specs.Views.{lists_of}
 use Rattle.req_pre.proofs.PreparedLemmas.{list_there, looked_up}
-use Rattle.arbac_rules.specs.Views.{needs_of}
+use Rattle.arbac_laws.specs.Views.{needs_of}
 use Rattle.req_pre.proofs.prepared.Prepared.conjuncts_at.Goals as goal
 
 pub returns-in-Some-clause-list : goal.returns-in-Some-clause-list

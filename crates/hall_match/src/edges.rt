@@ -1,6 +1,7 @@
 //! Which item goes with which place.
 
 ghost use Rattle.std.specs.Prelude.{ℕ, ◌≡◌, ◌<◌, ◌⊎◌, ◌↔◌, Contains, IsTrue, OnOk, IfOk};
+ghost use Rattle.hall_match.specs.Joined.{AreJoined};
 
 use std::alloc::{AllocError, Global};
 
@@ -38,22 +39,11 @@ pub fn pairs_where<E: Edges>(
     items: u32,
     places: u32,
 ) -> Result<Vec<(u32, u32)>, AllocError>
-    ensures { IfOk result (λ pairs. (k u : ℕ) → Contains pairs.items (k, u) ↔
-        ((k < items) × (u < places) × E.joins edges.now k u)) }
+    ensures { IfOk result (λ pairs. AreJoined (E.joins edges.now) items places pairs.items) }
 {
     let mut pairs = Vec::new(alloc);
     for item in 0..items {
         put_pairs(&mut pairs, edges, item, places)?;
     }
     Ok(pairs)
-}
-
-/// The count as a number of 32 bits.
-pub fn small(count: usize) -> Result<u32, AllocError>
-    ensures { IfOk result (λ number. number ≡ count) }
-{
-    if count > u32::MAX as usize {
-        return Err(AllocError);
-    }
-    Ok(count as u32)
 }

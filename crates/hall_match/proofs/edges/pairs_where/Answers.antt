@@ -1,7 +1,7 @@
 use Rattle.std.proofs.Common.{◌≡◌, arith, subst}
 use Rattle.hall_match.proofs.EdgeLemmas.{HaveItems}
-use Rattle.req_core.proofs.PairLemmas.{AreBelow, row_more, rows_whole}
-use Rattle.req_core.proofs.pairs.pairs_where.Goals as goal
+use Rattle.hall_match.proofs.JoinedLemmas.{AreBelow, row_more, rows_whole}
+use Rattle.hall_match.proofs.edges.pairs_where.Goals as goal
 
 pub loop-item-preserved : goal.loop-item-preserved
 loop-item-preserved g c = row_more (g.E.Edges.joins c.args.edges.now) c.args.places c.loop-item.pairs.items c.put_pairs.new.pairs.items c.loop-item.item c.loop-item.invariant c.in_ok-put_pairs.ensures

@@ -1,7 +1,7 @@
 use Rattle.std.proofs.Common.{◌≡◌, true, false, arith, sym, subst, ◌∙◌}
 use Rattle.hall_match.proofs.EdgeLemmas.{HaveUpTo, place_more, place_same}
-use Rattle.req_core.proofs.pairs.put_pairs.Goals.{then-has+in_ok-push, else-has}
-use Rattle.req_core.proofs.pairs.put_pairs.Goals as goal
+use Rattle.hall_match.proofs.edges.put_pairs.Goals.{then-has+in_ok-push, else-has}
+use Rattle.hall_match.proofs.edges.put_pairs.Goals as goal
 
 pub loop-place-preserved : goal.loop-place-preserved
 loop-place-preserved g c =
