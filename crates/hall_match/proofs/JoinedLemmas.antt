@@ -2,7 +2,10 @@
 use Rattle.std.proofs.Common.{ℕ, ◌≡◌, ◌<◌, ◌+◌, List, [], ◌∷◌, length, get_or, refl, arith, zero, suc, sym, subst, inl, inr, Option, Some, None}
 use Rattle.std.specs.Prelude.{◌⊎◌, ◌↔◌, Contains, slice_get, replicate, IfNone}
 use Rattle.std.proofs.lemmas.List.{length-replicate, get_or_default}
-use Rattle.std.proofs.lemmas.Option.{slice_get_within}
+use Rattle.list_words.specs.Embeds.{Embeds}
+use Rattle.list_words.specs.Places.{ArePlaces}
+use Rattle.list_words.proofs.GetLemmas.{get_below, get_there}
+use Rattle.list_words.proofs.PlaceLemmas.{to_places}
 use Rattle.hall_match.specs.Matchings.{ArePairsWithin, IsMatching, IsLeast}
 use Rattle.hall_match.specs.declared.outcome.Matching.{Matching}
 use Rattle.hall_match.specs.declared.outcome.Matching.TheVariants.{Matched, Deficient}
@@ -78,32 +81,33 @@ pub none_ones : (Joins : ℕ → ℕ → Type 0) (left places : ℕ)
     → (list : List ℕ) → ¬ IsTransversal Joins left places list
 none_ones Joins left places (pairs, joined, none) list t = none list (transversal_matching Joins left places pairs list (of_ones Joins left places pairs joined) t)
 
-there : {A : Type 0} (xs : List A) (i : ℕ) → i < length xs → (x : A) × (slice_get xs i ≡ Some x)
-there [] i l = absurd (omega arith)
-there (x ∷ xs) zero l = (x, refl)
-there (x ∷ xs) (suc i) l = there xs i (omega arith)
+-- where the items of two lists go together, a transversal has for each item of the first one of the second
+pub transversal_places : {A B : Type 0} (R : A → B → Type 0) (xs : List A) (ys : List B) (list : List ℕ) → IsTransversal (JoinsAt R xs ys) (length xs) (length ys) list
+    → ArePlaces R xs ys list
+transversal_places {A} {B} R xs ys list t = record { long = t.long; apart = t.apart; each = each }
+  where
+    each : (i : ℕ) (x : A) → slice_get xs i ≡ Some x → (y : B) × (slice_get ys (get_or list i 0) ≡ Some y) × R x y
+    each i x is =
+        let one = (t.each i (get_below xs i x is)).1 in
+        let same : one.0 ≡ x = cc (one.2, is) in
+        (one.1, one.3, subst (λ v. R v one.1) same one.4)
 
--- where the items of two lists go together, a transversal has for each of the first one of the second
-pub items_joined : {A B : Type 0} (R : A → B → Type 0) (xs : List A) (ys : List B) (list : List ℕ) → IsTransversal (JoinsAt R xs ys) (length xs) (length ys) list
-    → (i : ℕ) (x : A) → slice_get xs i ≡ Some x → (y : B) × (slice_get ys (get_or list i 0) ≡ Some y) × R x y
-items_joined {A} {B} R xs ys list t i x is =
-    let one = (t.each i (slice_get_within xs i x is)).1 in
-    let same : one.0 ≡ x = cc (one.2, is) in
-    (one.1, one.3, subst (λ v. R v one.1) same one.4)
-
--- and where each has one of the second, the places are a transversal
-pub joined_items : {A B : Type 0} (R : A → B → Type 0) (xs : List A) (ys : List B) (list : List ℕ) → length list ≡ length xs
-    → ((i j : ℕ) → i < length list → j < length list → get_or list i 0 ≡ get_or list j 0 → i ≡ j)
-    → ((i : ℕ) (x : A) → slice_get xs i ≡ Some x → (y : B) × (slice_get ys (get_or list i 0) ≡ Some y) × R x y)
+-- and the other way round
+pub places_transversal : {A B : Type 0} (R : A → B → Type 0) (xs : List A) (ys : List B) (list : List ℕ) → ArePlaces R xs ys list
     → IsTransversal (JoinsAt R xs ys) (length xs) (length ys) list
-joined_items {A} {B} R xs ys list long apart each = record {
-  long = long;
-  apart = apart;
+places_transversal {A} {B} R xs ys list p = record {
+  long = p.long;
+  apart = p.apart;
   each = λ i l.
-      let x = there xs i l in
-      let one = each i x.0 x.1 in
-      (slice_get_within ys (get_or list i 0) one.0 one.1, (x.0, one.0, x.1, one.1, one.2));
+      let x = get_there xs i l in
+      let one = p.each i x.0 x.1 in
+      (get_below ys (get_or list i 0) one.0 one.1, (x.0, one.0, x.1, one.1, one.2));
 }
+
+-- where there is no transversal, there is no injective map
+pub none_embeds : {A B : Type 0} (R : A → B → Type 0) (xs : List A) (ys : List B)
+    → ((list : List ℕ) → ¬ IsTransversal (JoinsAt R xs ys) (length xs) (length ys) list) → ¬ Embeds R xs ys
+none_embeds R xs ys none f = let places = to_places R xs ys f in none places.0 (places_transversal R xs ys places.0 places.1)
 
 -- what is known of a list of the pairs below these numbers
 pub of_pairs : (Joins : ℕ → ℕ → Type 0) (items places left count : ℕ) (pairs : List (ℕ × ℕ)) (P : ℕ → List (ℕ × ℕ) → Type 0) → items ≡ left → places ≡ count

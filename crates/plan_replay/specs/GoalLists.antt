@@ -1,10 +1,10 @@
 -- Lists of the users who meet a goal.
 use Rattle.std.specs.Prelude.{ℕ, ◌≡◌, ◌⊎◌, List, [], ◌∷◌}
 use Rattle.std.specs.Coded.{×_prop, Unit-prop, le_prop}
-use Rattle.role_order.specs.Lists.{Each}
+use Rattle.list_words.specs.Lists.{Each}
 use Rattle.arbac_policy.specs.declared.cond.Cond.{Cond}
 use Rattle.arbac_policy.specs.Truth.{Term, any, has, lacks, both, either, term_of, user, IsKnown, Satisfies}
-use Rattle.arbac_laws.specs.Places.{ArePlaces}
+use Rattle.list_words.specs.Places.{ArePlaces}
 use Rattle.hall_match.specs.Matchings.{IsBefore}
 
 -- different users, by place, one for each condition, each of whom meets his condition

@@ -1,7 +1,7 @@
 //! Which users meet a goal.
 
 ghost use Rattle.std.specs.Prelude.{◌≡◌, ◌<◌, ◌^◌, length, map, IfOk, IfSome, IfNone};
-ghost use Rattle.role_order.specs.Lists.{Each};
+ghost use Rattle.list_words.specs.Lists.{Each};
 ghost use Rattle.arbac_policy.specs.Truth.{term_of, user, IsKnown, Satisfies};
 ghost use Rattle.arbac_policy.specs.Goals.{GoalMet};
 ghost use Rattle.hall_match.specs.Joined.{JoinsAt};

@@ -1,15 +1,11 @@
--- Whether one user requirement covers another, and transversals of those that do.
-use Rattle.std.proofs.Common.{ℕ, ◌≡◌, ◌∙◌, Bool, true, false, List, length, sym}
+-- Whether one user requirement covers another.
+use Rattle.std.proofs.Common.{ℕ, ◌≡◌, ◌∙◌, Bool, true, false, sym}
 use Rattle.std.specs.Prelude.{◌↔◌, IsTrue}
 use Rattle.std.specs.List.{list_all, list_any}
-use Rattle.role_order.proofs.SetLemmas.{and_both, both_true}
+use Rattle.list_words.proofs.TestLemmas.{and_both, both_true}
 use Rattle.role_order.specs.Roles.{less_roles, is_within}
-use Rattle.arbac_laws.specs.Needs.{Need, CoversNeed, Covers}
-use Rattle.arbac_laws.specs.Places.{ArePlaces}
-use Rattle.arbac_laws.proofs.PlaceLemmas.{to_places}
+use Rattle.arbac_laws.specs.Needs.{Need, CoversNeed}
 use Rattle.arbac_laws.proofs.SameLemmas.{covers_test, covers_of_test, test_of_covers}
-use Rattle.hall_match.specs.Joined.{IsTransversal, JoinsAt}
-use Rattle.hall_match.proofs.JoinedLemmas.{items_joined, joined_items}
 
 -- whether within each hit of the first lies one of the second, less the second's lacks
 abbrev pub hits_test : Need → Need → Bool
@@ -30,15 +26,3 @@ covers_first a b lacks is fails = (
   λ t. let e : true ≡ false = sym t ∙ fails in cc,
   λ c. is ∙ (and_both (hits_test a b) (is_within a.lacks b.lacks) (test_of_covers a b c)).1,
 )
-
--- a transversal sends each user requirement to one that it covers
-pub transversal_covers : (needs others : List Need) (list : List ℕ) → IsTransversal (JoinsAt CoversNeed needs others) (length needs) (length others) list
-    → ArePlaces CoversNeed needs others list
-transversal_covers needs others list t = record { long = t.long; apart = t.apart; each = items_joined CoversNeed needs others list t }
-
--- where there is none, the first requirement doesn't cover the second
-pub none_covers : (needs others : List Need) → ((list : List ℕ) → ¬ IsTransversal (JoinsAt CoversNeed needs others) (length needs) (length others) list) → ¬ Covers needs others
-none_covers needs others none met =
-    let places = to_places CoversNeed needs others met in
-    let p = places.1 in
-    none places.0 (joined_items CoversNeed needs others places.0 p.long p.apart p.each)

@@ -4,7 +4,7 @@ ghost use Rattle.std.specs.Prelude.{◌≡◌, ◌↔◌, IsTrue, IfOk, IfSome, 
 ghost use Rattle.std.specs.List.{list_any, list_all};
 ghost use Rattle.role_order.specs.Roles.{less_roles, is_within};
 ghost use Rattle.arbac_laws.specs.Needs.{CoversNeed, Covers};
-ghost use Rattle.arbac_laws.specs.Places.{ArePlaces};
+ghost use Rattle.list_words.specs.Places.{ArePlaces};
 ghost use Rattle.hall_match.specs.Joined.{JoinsAt};
 
 use crate::req::{Req, UserReq};

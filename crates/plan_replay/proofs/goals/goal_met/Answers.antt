@@ -1,10 +1,10 @@
 use Rattle.std.proofs.Common.{◌≡◌, ◌<◌, ℕ, List, Vec, Global, length, map, sym, subst}
 use Rattle.std.proofs.lemmas.Option.{IfSome_then}
-use Rattle.hall_match.proofs.JoinedLemmas.{none_then}
-use Rattle.hall_match.specs.Joined.{IsTransversal, IsLeastTransversal}
+use Rattle.hall_match.proofs.JoinedLemmas.{none_then, none_embeds}
+use Rattle.hall_match.specs.Joined.{IsTransversal, IsLeastTransversal, JoinsAt}
 use Rattle.arbac_policy.specs.Truth.{term_of}
 use Rattle.plan_replay.specs.GoalLists.{AreKnown}
-use Rattle.plan_replay.proofs.GoalLemmas.{length-map, MeetsAt, least_meets, none_met}
+use Rattle.plan_replay.proofs.GoalLemmas.{length-map, MeetsOne, least_meets}
 use Rattle.plan_replay.proofs.goals.goal_met.Goals as goal
 
 pub invariant_of-meeting : goal.invariant_of-meeting
@@ -16,8 +16,8 @@ returns-clause-met c =
     let goal = map term_of c.args.goal.now in
     let sets = c.args.population.now in
     IfSome_then c.in_ok-users.users c.in_ok-users.ensures.least (λ list h.
-    let least : IsLeastTransversal (MeetsAt edges goal sets) (length c.args.goal.now) (length sets) list.items = rw (c.order.ensures.order) at h in
-    least_meets edges goal sets list.items (subst (λ n. IsLeastTransversal (MeetsAt edges goal sets) n (length sets) list.items) (sym (length-map term_of c.args.goal.now)) least))
+    let least : IsLeastTransversal (JoinsAt (MeetsOne edges) goal sets) (length c.args.goal.now) (length sets) list.items = rw (c.order.ensures.order) at h in
+    least_meets edges goal sets list.items (subst (λ n. IsLeastTransversal (JoinsAt (MeetsOne edges) goal sets) n (length sets) list.items) (sym (length-map term_of c.args.goal.now)) least))
 
 pub returns-clause-unmet : goal.returns-clause-unmet
 returns-clause-unmet c =
@@ -25,5 +25,5 @@ returns-clause-unmet c =
     let goal = map term_of c.args.goal.now in
     let sets = c.args.population.now in
     none_then c.in_ok-users.users c.in_ok-users.ensures.none (λ h.
-    let none : (list : List ℕ) → ¬ IsTransversal (MeetsAt edges goal sets) (length c.args.goal.now) (length sets) list = rw (c.order.ensures.order) at h in
-    none_met edges goal sets (subst (λ n. (list : List ℕ) → ¬ IsTransversal (MeetsAt edges goal sets) n (length sets) list) (sym (length-map term_of c.args.goal.now)) none))
+    let none : (list : List ℕ) → ¬ IsTransversal (JoinsAt (MeetsOne edges) goal sets) (length c.args.goal.now) (length sets) list = rw (c.order.ensures.order) at h in
+    none_embeds (MeetsOne edges) goal sets (subst (λ n. (list : List ℕ) → ¬ IsTransversal (JoinsAt (MeetsOne edges) goal sets) n (length sets) list) (sym (length-map term_of c.args.goal.now)) none))
