@@ -3,7 +3,7 @@
 ghost use Rattle.std.specs.Prelude.{◌≡◌, ◌≤◌, ◌<◌, length, IfOk, IfErr};
 ghost use Rattle.arbac_policy.specs.Truth.{term_of, IsKnown};
 ghost use Rattle.cond_text.specs.Grammar.{term_count};
-ghost use Rattle.arbac_laws.specs.Conjuncts.{conjuncts as conjuncts_law};
+ghost use Rattle.arbac_laws.specs.Conjuncts as laws;
 ghost use Rattle.arbac_laws.specs.Views.{needs_of};
 ghost use Rattle.arbac_rules.specs.Views.{IsTooWide};
 
@@ -28,7 +28,7 @@ pub enum WideError {
 fn list_all(alloc: Global, order: &Order, cond: &Cond) -> Result<Vec<Conjunct>, AllocError>
     requires { IsKnown (length order.now.names) (term_of cond.now) }
     ensures { IfOk result (λ list. needs_of list.items
-        ≡ conjuncts_law order.now (term_of cond.now)) }
+        ≡ laws.conjuncts order.now (term_of cond.now)) }
 {
     match cond {
         Cond::Any => Ok(list_of(alloc, of_any(alloc))?),
@@ -54,10 +54,10 @@ pub fn conjuncts(alloc: Global, order: &Order, cond: &Cond) -> Result<Vec<Conjun
     requires terms { term_count (term_of cond.now) ≤ MOST_TERMS }
     requires known { IsKnown (length order.now.names) (term_of cond.now) }
     ensures list { IfOk result (λ list. needs_of list.items
-        ≡ conjuncts_law order.now (term_of cond.now)) }
-    ensures few { IfOk result (λ _. length (conjuncts_law order.now (term_of cond.now))
+        ≡ laws.conjuncts order.now (term_of cond.now)) }
+    ensures few { IfOk result (λ _. length (laws.conjuncts order.now (term_of cond.now))
         ≤ MOST_CONJUNCTS) }
-    ensures wide { IfErr result (IsTooWide (conjuncts_law order.now (term_of cond.now))) }
+    ensures wide { IfErr result (IsTooWide (laws.conjuncts order.now (term_of cond.now))) }
     ensures limit { MOST_CONJUNCTS ≡ 1024 }
 {
     let count = width_of(cond);

@@ -13,6 +13,11 @@ use Rattle.hall_match.proofs.LawLemmas.{contained_any}
 use Rattle.hall_match.proofs.DeficiencyLemmas.{seen_at}
 use Rattle.hall_match.proofs.MarkLemmas.{seen_places, seen_has, seen_only, marked_rising, full_limit, closed_counts}
 
+one : (s t : Bool) → (s ≡ true → t ≡ true) → cond s 1 0 ≤ cond t 1 0
+one false t f = omega arith
+one true true f = omega arith
+one true false f = absurd (false≢true (f refl))
+
 -- where one test passes wherever the other does, and at one more place, it passes more often
 pub count_more : {X Y : Type 0} (p : X → Bool) (q : Y → Bool) (d : X) (e : Y) (xs : List X)
     (ys : List Y) (i : ℕ) → length xs ≡ length ys
@@ -41,22 +46,12 @@ count_more p q d e (x ∷ xs) (y ∷ ys) zero long h l off on =
         let rest = count_same p q d e xs ys (omega (arith, long))
         (λ k m. h (suc k) (omega (arith, m))) in
         let f = one (p x) (q y) (h 0 (omega arith)) in omega (arith, a, b, rest, f)
-      where
-        one : (s t : Bool) → (s ≡ true → t ≡ true) → cond s 1 0 ≤ cond t 1 0
-        one false t f = omega arith
-        one true true f = omega arith
-        one true false f = absurd (false≢true (f refl))
 count_more p q d e (x ∷ xs) (y ∷ ys) (suc i) long h l off on =
     let a = count-cons p x xs in
     let b = count-cons q y ys in
     let rest = count_more p q d e xs ys i (omega (arith, long))
     (λ k m. h (suc k) (omega (arith, m))) (omega (arith, l)) off on in
     let f = one (p x) (q y) (h 0 (omega arith)) in omega (arith, a, b, rest, f)
-  where
-    one : (s t : Bool) → (s ≡ true → t ≡ true) → cond s 1 0 ≤ cond t 1 0
-    one false t f = omega arith
-    one true true f = omega arith
-    one true false f = absurd (false≢true (f refl))
 
 -- the places of a matching are used within their capacities, also together
 pub uses_fit : (left : ℕ) (capacities : List (Option ℕ)) (edges : List (ℕ × ℕ)) (list places : List ℕ)

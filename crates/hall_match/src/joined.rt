@@ -9,8 +9,8 @@ use crate::edges::{Edges, pairs_where};
 use crate::outcome::{Matching, match_all};
 use std::alloc::{AllocError, Global};
 
-/// The count as a number of 32 bits.
-fn small(count: usize) -> Result<u32, AllocError>
+/// The count as a number of 32 bits. The error is that it has more.
+pub fn small(count: usize) -> Result<u32, AllocError>
     ensures { IfOk result (λ number. number ≡ count) }
 {
     if count > u32::MAX as usize {

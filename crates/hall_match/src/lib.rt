@@ -13,7 +13,7 @@ mod settling;
 mod users;
 
 pub use edges::Edges;
-pub use joined::{least_transversal, match_by};
+pub use joined::{least_transversal, match_by, small};
 pub use laws::{deficient_law, least_law};
 pub use outcome::{Matching, match_all};
 pub use std::alloc::AllocError as NoMemory;

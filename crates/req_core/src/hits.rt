@@ -4,7 +4,8 @@ ghost use Rattle.std.specs.Prelude.{◌≡◌, ◌<◌, ◌≤◌, true, false, 
 ghost use Rattle.std.specs.List.{list_any};
 ghost use Rattle.role_order.specs.Orders.{set_before};
 ghost use Rattle.arbac_laws.specs.PreImages.{is_empty};
-ghost use Rattle.arbac_laws.specs.NormalForms.{bare_hits as bare, is_less as less, least_hits, insert_once, sort_once, normal_need, AreSets, IsNormalNeed};
+ghost use Rattle.arbac_laws.specs.NormalForms as forms;
+ghost use Rattle.arbac_laws.specs.NormalForms.{least_hits, insert_once, sort_once, normal_need, AreSets, IsNormalNeed};
 ghost use Rattle.role_order.specs.Roles.{Rises};
 ghost use Rattle.arbac_laws.specs.Views.{need_of};
 
@@ -26,7 +27,7 @@ fn known(set: &RoleSet) -> RoleSet
 /// The hits without the lacks; none where one of them has no role left.
 fn bare_hits(alloc: Global, raw: &RawUser) -> Result<Option<Vec<RoleSet>>, AllocError>
     ensures hits { IfOk result (λ hits. option_map (λ list. list.items) hits
-        ≡ (if list_any is_empty (bare (need_of raw.now)) then None else Some (bare (need_of raw.now)))) }
+        ≡ (if list_any is_empty (forms.bare_hits (need_of raw.now)) then None else Some (forms.bare_hits (need_of raw.now)))) }
     ensures sets { IfOk result (λ hits. IfSome hits (λ _. AreSets (need_of raw.now))) }
 {
     let lacks = known(&raw.lacks);
@@ -43,14 +44,14 @@ fn bare_hits(alloc: Global, raw: &RawUser) -> Result<Option<Vec<RoleSet>>, Alloc
 
 /// Whether it lies within the other, and not the other way round.
 fn is_less(hit: &RoleSet, other: &RoleSet) -> bool
-    ensures { result ≡ less hit.now other.now }
+    ensures { result ≡ forms.is_less hit.now other.now }
 {
     hit.within(other) && !other.within(hit)
 }
 
 /// Whether a different hit lies within it.
 fn some_less(hits: &[RoleSet], hit: &RoleSet) -> bool
-    ensures { result ≡ list_any (λ other. less other hit.now) hits.now }
+    ensures { result ≡ list_any (λ other. forms.is_less other hit.now) hits.now }
 {
     hits.iter().any(|other| is_less(other, hit))
 }
@@ -76,7 +77,7 @@ fn insert(hits: &mut Vec<RoleSet>, hit: &RoleSet) -> Result<(), AllocError>
 
 /// Puts the hit in its place, if no different one lies within it.
 fn add_least(list: &mut Vec<RoleSet>, hits: &[RoleSet], hit: &RoleSet) -> Result<(), AllocError>
-    ensures { OnOk result (list.new.items ≡ (if list_any (λ other. less other hit.now) hits.now
+    ensures { OnOk result (list.new.items ≡ (if list_any (λ other. forms.is_less other hit.now) hits.now
         then list.old.items else insert_once set_before hit.now list.old.items)) }
 {
     if !some_less(hits, hit) {
@@ -108,7 +109,7 @@ fn made(hits: Vec<RoleSet>, lacks: RoleSet) -> UserReq
 /// The user requirement in normal form; none where a hit has no role left.
 pub(crate) fn normal_user(alloc: Global, raw: &RawUser) -> Result<Option<UserReq>, AllocError>
     ensures need { IfOk result (λ user. user
-        ≡ (if list_any is_empty (bare (need_of raw.now)) then None else Some (normal_need (need_of raw.now)))) }
+        ≡ (if list_any is_empty (forms.bare_hits (need_of raw.now)) then None else Some (normal_need (need_of raw.now)))) }
     ensures normal { IfOk result (λ user. IfSome user IsNormalNeed) }
 {
     match bare_hits(alloc, raw)? {

@@ -4,12 +4,14 @@ ghost use Rattle.std.specs.Prelude.{◌≡◌, ◌≤◌, ◌++◌, [], ◌∷�
 ghost use Rattle.list_words.specs.Lists.{Each};
 ghost use Rattle.arbac_policy.specs.Truth.{term_of, IsKnown};
 ghost use Rattle.cond_text.specs.Grammar.{term_count};
-ghost use Rattle.arbac_laws.specs.Conjuncts.{conjuncts as conjuncts_law};
-ghost use Rattle.arbac_laws.specs.Goals.{before_each as before_each_law, goal_requirements};
+ghost use Rattle.arbac_laws.specs.Conjuncts as conjunct_laws;
+ghost use Rattle.arbac_laws.specs.Goals as goal_laws;
+ghost use Rattle.arbac_laws.specs.Goals.{goal_requirements};
 ghost use Rattle.arbac_laws.specs.NormalForms.{normal_form};
 ghost use Rattle.req_core.specs.Answers.{form_in};
 ghost use Rattle.arbac_laws.specs.Views.{need_of, needs_of};
-ghost use Rattle.req_pre.specs.Combining.{too_many as too_many_law, IsTooMany};
+ghost use Rattle.req_pre.specs.Combining as combining;
+ghost use Rattle.req_pre.specs.Combining.{IsTooMany};
 ghost use Rattle.req_pre.specs.Views.{lists_of};
 ghost use Rattle.req_pre.specs.Answers.{AreGoalPlaces};
 
@@ -26,7 +28,7 @@ use std::alloc::{AllocError, Global};
 /// too many; none where they never are.
 fn too_many(goal: &[Cond]) -> Option<u128>
     requires { Each (λ cond. term_count (term_of cond) ≤ MOST_TERMS) goal.now }
-    ensures { result ≡ too_many_law 1 (map term_of goal.now) }
+    ensures { result ≡ combining.too_many 1 (map term_of goal.now) }
 {
     let mut combinations = 1;
     for cond in goal {
@@ -72,7 +74,7 @@ fn before_each(
     firsts: &[Conjunct],
     tails: &[Vec<RawUser>],
 ) -> Result<Vec<Vec<RawUser>>, AllocError>
-    ensures { IfOk result (λ all. lists_of all.items ≡ before_each_law (needs_of firsts.now) (lists_of tails.now)) }
+    ensures { IfOk result (λ all. lists_of all.items ≡ goal_laws.before_each (needs_of firsts.now) (lists_of tails.now)) }
 {
     let mut all = Vec::new(alloc);
     for first in firsts {
@@ -85,7 +87,7 @@ fn before_each(
 fn few_conjuncts(alloc: Global, order: &Order, cond: &Cond) -> Result<Vec<Conjunct>, AllocError>
     requires terms { term_count (term_of cond.now) ≤ MOST_TERMS }
     requires known { IsKnown (length order.now.names) (term_of cond.now) }
-    ensures { IfOk result (λ list. needs_of list.items ≡ conjuncts_law order.now (term_of cond.now)) }
+    ensures { IfOk result (λ list. needs_of list.items ≡ conjunct_laws.conjuncts order.now (term_of cond.now)) }
 {
     match conjuncts(alloc, order, cond) {
         Ok(list) => Ok(list),
