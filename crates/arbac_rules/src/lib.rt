@@ -9,7 +9,7 @@ mod width;
 
 pub use arbac_policy::Conjunct;
 pub use listing::{WideError, conjuncts};
-pub use width::width_of;
+pub use width::{too_many, width_of};
 
 /// The greatest number of conjuncts of a condition that are listed.
 pub const MOST_CONJUNCTS: usize = 1_024;

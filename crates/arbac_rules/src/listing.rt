@@ -5,7 +5,7 @@ ghost use Rattle.arbac_policy.specs.Truth.{term_of, IsKnown};
 ghost use Rattle.cond_text.specs.Grammar.{term_count};
 ghost use Rattle.arbac_laws.specs.Conjuncts as laws;
 ghost use Rattle.arbac_laws.specs.Views.{needs_of};
-ghost use Rattle.arbac_rules.specs.Views.{IsTooWide};
+ghost use Rattle.arbac_rules.specs.Widths.{IsTooWide};
 
 use crate::MOST_CONJUNCTS;
 use crate::conjunct::{added_lists, joined_lists, list_of, of_any, of_has, of_lacks};

@@ -159,12 +159,7 @@ impl<'a> Edges for Listed<'a> {
 }
 
 /// How many items and places, the edges, and the least list of different places.
-type DistinctRow = (
-    usize,
-    usize,
-    &'static [(u32, u32)],
-    Option<&'static [u32]>,
-);
+type DistinctRow = (usize, usize, &'static [(u32, u32)], Option<&'static [u32]>);
 
 const DISTINCT: [DistinctRow; 5] = [
     (0, 0, &[], Some(&[])),
@@ -184,7 +179,11 @@ fn edges_that_a_test_tells(rt: HostRuntime) -> Result<(), Fail> {
     }
     for (row, (items, places, edges, list)) in DISTINCT.iter().enumerate() {
         let found = least_transversal(rt.alloc(), *items, *places, &Listed { edges: *edges })?;
-        assert_eq!(&rt; found.as_ref().map(|places| places.as_slice()), *list, "at row {row}");
+        assert_eq!(&rt;
+            found.as_ref().map(|places| places.as_slice()),
+            *list,
+            "at row {row}"
+        );
     }
     Ok(())
 }

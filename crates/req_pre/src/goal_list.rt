@@ -10,7 +10,6 @@ ghost use Rattle.arbac_laws.specs.Goals.{goal_requirements};
 ghost use Rattle.arbac_laws.specs.NormalForms.{normal_form};
 ghost use Rattle.req_core.specs.Answers.{form_in};
 ghost use Rattle.arbac_laws.specs.Views.{need_of, needs_of};
-ghost use Rattle.req_pre.specs.Combining as combining;
 ghost use Rattle.req_pre.specs.Combining.{IsTooMany};
 ghost use Rattle.req_pre.specs.Views.{lists_of};
 ghost use Rattle.req_pre.specs.Answers.{AreGoalPlaces};
@@ -18,27 +17,11 @@ ghost use Rattle.req_pre.specs.Answers.{AreGoalPlaces};
 use crate::prepared::Prepared;
 use crate::raw::raw_user;
 use arbac_policy::Cond;
-use arbac_rules::{Conjunct, MOST_CONJUNCTS, WideError, conjuncts, width_of};
+use arbac_rules::{Conjunct, MOST_CONJUNCTS, WideError, conjuncts, too_many};
 use cond_text::MOST_TERMS;
 use req_core::{Normal, RawUser, normal};
 use role_order::Order;
 use std::alloc::{AllocError, Global};
-
-/// How many combinations of one conjunct of each condition there are up to the first condition at which they are
-/// too many; none where they never are.
-fn too_many(goal: &[Cond]) -> Option<u128>
-    requires { Each (λ cond. term_count (term_of cond) ≤ MOST_TERMS) goal.now }
-    ensures { result ≡ combining.too_many 1 (map term_of goal.now) }
-{
-    let mut combinations = 1;
-    for cond in goal {
-        combinations *= width_of(cond);
-        if combinations > MOST_CONJUNCTS as u128 {
-            return Some(combinations);
-        }
-    }
-    None
-}
 
 /// A user who meets the conjunct, before the others.
 fn with_first(alloc: Global, first: &Conjunct, tail: &[RawUser]) -> Result<Vec<RawUser>, AllocError>

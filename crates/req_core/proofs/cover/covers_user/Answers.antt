@@ -7,7 +7,7 @@ pub returns-then-within : goal.returns-then-within
 returns-then-within c =
     let lacks : c.within.result ≡ is_within c.args.a.now.lacks c.args.b.now.lacks = rw (c.lacks.ensures, c.lacks-2.ensures) at c.within.ensures in
     let hits : c.covers_hits.result ≡ hits_test c.args.a.now c.args.b.now =
-    rw (c.hits.ensures.hits, c.hits-2.ensures.hits, c.lacks-then-within.ensures) at c.covers_hits.ensures in
+    rw (c.hits.ensures.hits, c.hits-then-within.ensures.hits, c.lacks-then-within.ensures) at c.covers_hits.ensures in
     covers_both c.args.a.now c.args.b.now c.covers_hits.result (sym lacks ∙ c.if-within.true) hits
 
 pub returns-else-within : goal.returns-else-within

@@ -7,7 +7,7 @@ use Rattle.arbac_rules.specs.declared.TheConstants.{MOST_CONJUNCTS}
 use Rattle.arbac_policy.specs.declared.conjunct.Conjunct.{Conjunct}
 use Rattle.arbac_rules.specs.declared.listing.WideError.TheVariants.{TooWide}
 use Rattle.arbac_laws.specs.Views.{needs_of}
-use Rattle.arbac_rules.specs.Views.{IsTooWide as IsTooWideList}
+use Rattle.arbac_rules.specs.Widths.{IsTooWide as IsTooWideList}
 use Rattle.req_pre.specs.Preparing.{conjuncts_of, IsWide}
 use Rattle.req_pre.proofs.PreparedLemmas.{wide_first, narrow_here, mapped_more}
 use Rattle.req_pre.proofs.prepared.lists_for.Goals as goal
