@@ -15,3 +15,4 @@ pub mod LeastLemmas
 pub mod OneLemmas
 pub mod EdgeLemmas
 pub mod JoinedLemmas
+pub mod FirstLemmas

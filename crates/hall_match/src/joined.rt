@@ -6,6 +6,7 @@ ghost use Rattle.hall_match.specs.Matchings.{IsMatching, IsLeast, IsDeficient};
 ghost use Rattle.hall_match.specs.Outcome.{IfMatched, IfDeficient};
 
 use crate::edges::{Edges, pairs_where};
+use crate::firsts::{are_different, first_places};
 use crate::outcome::{Matching, match_all};
 use std::alloc::{AllocError, Global};
 
@@ -49,9 +50,8 @@ fn ones(alloc: Global, count: usize) -> Result<Vec<Option<u32>>, AllocError>
     Ok(ones)
 }
 
-/// The least list of different places, one for each item, with which the items go; none exactly where
-/// there is no such list. The error is want of memory, or more items or places than 32 bits count.
-pub fn least_transversal<E: Edges>(
+/// The least transversal, by a matching.
+fn matched_transversal<E: Edges>(
     alloc: Global,
     left: usize,
     places: usize,
@@ -65,4 +65,25 @@ pub fn least_transversal<E: Edges>(
         Matching::Matched(list) => Ok(Some(list)),
         Matching::Deficient(_) => Ok(None),
     }
+}
+
+/// The least list of different places, one for each item, with which the items go; none exactly where
+/// there is no such list. A matching is sought only where two items have the same least place. The error is want of memory, or more items or places than 32 bits count.
+pub fn least_transversal<E: Edges>(
+    alloc: Global,
+    left: usize,
+    places: usize,
+    edges: &E,
+) -> Result<Option<Vec<u32>>, AllocError>
+    ensures least { IfOk result (λ found. IfSome found (λ list. IsLeastTransversal (E.joins edges.now) left places list.items)) }
+    ensures none { IfOk result (λ found. IfNone found ((list : List ℕ) → ¬ IsTransversal (E.joins edges.now) left places list)) }
+{
+    let Some(firsts) = first_places(alloc, edges, small(left)?, small(places)?)? else {
+        return Ok(None);
+    };
+    if are_different(&firsts) {
+        return Ok(Some(firsts));
+    }
+    let found = matched_transversal(alloc, left, places, edges)?;
+    Ok(found)
 }

@@ -3,6 +3,7 @@
 
 mod deficiency;
 mod edges;
+mod firsts;
 mod joined;
 mod laws;
 mod outcome;

@@ -1,21 +1,21 @@
-use Rattle.std.proofs.Common.{ℕ, ◌≡◌, ◌∙◌, List, length, replicate, Some}
-use Rattle.hall_match.specs.Matchings.{IsMatching, IsLeast}
-use Rattle.hall_match.specs.Joined.{OfPairs}
-use Rattle.hall_match.proofs.JoinedLemmas.{least_ones, none_ones}
+use Rattle.std.proofs.Common.{rules, ℕ, ◌≡◌, ◌<◌, length, get_or}
+use Rattle.std.specs.Prelude.{IfNone, IfSome}
+use Rattle.hall_match.specs.Firsts.{AreFirstPlaces, HasNoPlace}
+use Rattle.hall_match.proofs.FirstLemmas.{firsts_least, none_first}
 use Rattle.hall_match.proofs.joined.least_transversal.Goals as goal
 
-pub returns-in-Matched-clause-least : goal.returns-in-Matched-clause-least
-returns-in-Matched-clause-least g c =
+pub returns-in_default-clause-none : goal.returns-in_default-clause-none
+returns-in_default-clause-none g c =
     let joins = g.E.Edges.joins c.args.edges.now in
-    let ones = replicate c.args.places (Some 1) in
-    let least : OfPairs joins c.args.left (length ones) (λ pairs. IsLeast c.args.left ones pairs c.in-Matched.list.items) =
-    rw (c.in-Matched.is, c.deref.ensures.value, c.in_ok-ones.ensures) at c.in_ok-list.ensures.matched in
-    least_ones joins c.args.left c.args.places c.in-Matched.list.items least
+    let none : (item : ℕ) × (item < c.args.left) × HasNoPlace joins c.args.places item =
+    rw (c.in_default.is, c.in_ok-small.ensures, c.in_ok-small-2.ensures) at c.in_ok-firsts.ensures.none in
+    none_first joins c.args.left c.args.places none
 
-pub returns-clause-none : goal.returns-clause-none
-returns-clause-none g c =
+pub returns-then-are_different-clause-least : goal.returns-then-are_different-clause-least
+returns-then-are_different-clause-least g c =
     let joins = g.E.Edges.joins c.args.edges.now in
-    let ones = replicate c.args.places (Some 1) in
-    let none : OfPairs joins c.args.left (length ones) (λ pairs. (list : List ℕ) → ¬ IsMatching c.args.left ones pairs list) =
-    rw (c.in-Deficient.is, c.deref.ensures.value, c.in_ok-ones.ensures) at c.in_ok-list.ensures.unmatched in
-    none_ones joins c.args.left c.args.places none
+    let firsts = c.in-Some.firsts.items in
+    let are : AreFirstPlaces joins c.args.places c.args.left firsts = rw (c.in-Some.is, c.in_ok-small.ensures, c.in_ok-small-2.ensures) at c.in_ok-firsts.ensures.found in
+    let apart : (i j : ℕ) → i < length firsts → j < length firsts → get_or firsts i 0 ≡ get_or firsts j 0 → i ≡ j =
+    rw (c.deref.ensures.value) at (c.are_different.ensures c.if-are_different.true) in
+    firsts_least joins c.args.left c.args.places firsts are apart
