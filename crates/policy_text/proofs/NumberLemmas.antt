@@ -8,9 +8,11 @@ use Rattle.std.specs.Str.Parse.{digits_value}
 use Rattle.std.proofs.lemmas.Bool.{ne_eqb, eq-eqb, eqb-true}
 use Rattle.std.proofs.lemmas.Bool.Decides.{nat_tests}
 use Rattle.std.proofs.lemmas.Fmt.{digits_decimal, digits_value-decimal, decimal_nonempty, decimal_digit, first_decimal, decimal-digits_value}
-use Rattle.policy_text.specs.Spelling.{only_if, is_numeral, number_in}
-use Rattle.policy_text.proofs.LineLemmas.{Lacks}
-use Rattle.policy_text.proofs.WordLemmas.{own, and_left, and_right, lacks_other, digits_of, numeral_long}
+use Rattle.cond_text.specs.Cuts.{only_if}
+use Rattle.policy_text.specs.Spelling.{is_numeral, number_in}
+use Rattle.cond_text.proofs.CutLemmas.{Lacks}
+use Rattle.cond_text.proofs.NamedLemmas.{and_left, and_right, lacks_other}
+use Rattle.policy_text.proofs.WordLemmas.{own, digits_of, numeral_long}
 
 fits : (n : ℕ) → n < 2 ^ 32 → n < 2 ^ 64
 fits n h = omega arith

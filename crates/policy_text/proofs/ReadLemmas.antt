@@ -10,15 +10,18 @@ use Rattle.policy_text.specs.declared.listing.Listing.{Listing}
 use Rattle.policy_text.specs.declared.body.Body.{Body}
 use Rattle.policy_text.specs.declared.run_error.RunError.{RunError}
 use Rattle.policy_text.specs.declared.run_error.RunError.TheVariants.{BadLine, UnknownRole, Order, Cond, TooMany, Unended, Memory}
-use Rattle.policy_text.specs.Lines.{split, cut}
+use Rattle.cond_text.specs.Cuts.{cut}
+use Rattle.policy_text.specs.Lines.{split}
 use Rattle.policy_text.specs.LineForms.{LineForm, IsWellFormed, spell}
 use Rattle.policy_text.specs.declared.run.Run.{Run}
-use Rattle.policy_text.specs.Runs.{RunValue, nothing, plain_rule, plain_of, behind_edges, AddAll, IsReadTo, StandsFor, Reads}
+use Rattle.arbac_policy.specs.PlainRules.{plain_rule}
+use Rattle.policy_text.specs.Runs.{RunValue, nothing, plain_of, behind_edges, AddAll, IsReadTo, StandsFor, Reads}
 use Rattle.policy_text.proofs.ClashLemmas.{one_run, first_clash}
 use Rattle.policy_text.proofs.FirstLemmas.{one_fault}
 use Rattle.policy_text.specs.Faults.{EndsOrder, IsFaultInside, IsFirstFault, IsRefused, Tells}
 use Rattle.policy_text.specs.Steps.{listing_view, order_view, run_view, IsOrderTold, Passes, StopsAt, EndsWith, IsBodyFault, Told}
-use Rattle.policy_text.proofs.LineLemmas.{split_none, split_first, cut_joined}
+use Rattle.cond_text.proofs.CutLemmas.{cut_joined}
+use Rattle.policy_text.proofs.LineLemmas.{split_none, split_first}
 use Rattle.policy_text.proofs.UserLemmas.{map_long}
 use Rattle.policy_text.proofs.RunLemmas.{few_nothing}
 use Rattle.policy_text.proofs.SoleLemmas.{known_nothing, each_plain}

@@ -14,8 +14,11 @@ use Rattle.arbac_policy.specs.Rules.{IsKnownRange, IsKnownAssign, IsKnownRevoke}
 use Rattle.cond_text.specs.Words.{words, placed_words}
 use Rattle.cond_text.proofs.CompleteLemmas.{one_term}
 use Rattle.cond_text.proofs.LimitLemmas.{fine_term}
-use Rattle.policy_text.specs.LineForms.{LineForm, NamedRange, a_role, an_edge, an_assign, a_revoke, a_user, an_act, a_goal}
-use Rattle.policy_text.specs.Runs.{AssignRule, RunValue, nothing, plain_rule, Names, NameEach, NamesRange, NamesSet, ReadsAs, set_of, Extends, Adds, AddAll, AreKnownGoals, StandsFor}
+use Rattle.cond_text.specs.Ranges.{NamedRange}
+use Rattle.policy_text.specs.LineForms.{LineForm, a_role, an_edge, an_assign, a_revoke, a_user, an_act, a_goal}
+use Rattle.arbac_policy.specs.PlainRules.{AssignRule, plain_rule}
+use Rattle.cond_text.specs.Named.{Names, NameEach, NamesRange, NamesSet, ReadsAs, set_of}
+use Rattle.policy_text.specs.Runs.{RunValue, nothing, Extends, Adds, AddAll, AreKnownGoals, StandsFor}
 
 same_some : {A : Type 0} (x y : A) → Some x ≡ Some y → x ≡ y
 same_some x y e = cc

@@ -3,14 +3,16 @@ use Rattle.std.proofs.Common.{ℕ, ◌≡◌, ◌≤◌, ◌+◌, inl, Bool, tru
 use Rattle.std.specs.Str.{bytes_eq}
 use Rattle.std.proofs.lemmas.Bool.{eq-eqb, eqb-true}
 use Rattle.std.proofs.lemmas.Slice.Eq.{bytes_eq-Decides}
-use Rattle.policy_text.proofs.WordLemmas.{and_left, and_right}
+use Rattle.cond_text.proofs.NamedLemmas.{and_left, and_right}
 use Rattle.std.specs.Prelude.{◌&&◌, not, codes, OnOk, IfErr, Result, Ok, Err}
 use Rattle.role_order.specs.Lists.{Each}
 use Rattle.role_order.specs.Refusals.{IsOrder}
 use Rattle.policy_text.specs.declared.run_error.RunError.{RunError}
 use Rattle.policy_text.specs.declared.run_error.RunError.TheVariants.{BadLine, UnknownRole, Order, Cond, TooMany, Unended, Memory}
-use Rattle.policy_text.specs.Lines.{split, cut, is_order_line}
-use Rattle.policy_text.specs.LineForms.{LineForm, a_role, an_edge, an_assign, a_revoke, a_user, an_act, a_goal, IsWellFormed, tells_order, condition_of, spell, spell_range}
+use Rattle.cond_text.specs.Cuts.{cut}
+use Rattle.policy_text.specs.Lines.{split, is_order_line}
+use Rattle.cond_text.specs.Ranges.{spell_range}
+use Rattle.policy_text.specs.LineForms.{LineForm, a_role, an_edge, an_assign, a_revoke, a_user, an_act, a_goal, IsWellFormed, tells_order, condition_of, spell}
 use Rattle.policy_text.specs.Spelling.{form_of}
 use Rattle.policy_text.specs.Runs.{RunValue, MayStand, Adds, AddAll, behind_edges}
 use Rattle.policy_text.specs.Faults.{IsPlaced, IsLineFault, IsPastOrder, EndsOrder}

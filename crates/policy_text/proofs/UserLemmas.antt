@@ -5,8 +5,7 @@ use Rattle.role_order.specs.Names.{place_of}
 use Rattle.role_order.specs.Roles.{with_role}
 use Rattle.role_order.specs.Lists.{Some_of}
 use Rattle.role_order.proofs.ListLemmas.{take_one_more, take_all, some_at}
-use Rattle.policy_text.specs.Runs.{Names, NameEach, NamesSet}
-use Rattle.policy_text.specs.Faults.{IsUnknown}
+use Rattle.cond_text.specs.Named.{Names, NameEach, NamesSet, IsUnknown}
 
 each_more : (names words : List (List ℕ)) (roles : List ℕ) (word : List ℕ) (role : ℕ) → NameEach names words roles → Names names word role → NameEach names (words ++ word ∷ []) (roles ++ role ∷ [])
 each_more names [] roles word role n h = (role, [], h, refl, ap (λ (t : List ℕ). t ++ role ∷ []) n)

@@ -3,8 +3,8 @@ use Rattle.std.proofs.Common.{ℕ, ◌≡◌, Bool, true, false, List, [], ◌�
 use Rattle.std.specs.Prelude.{codes, IfOk}
 use Rattle.toml.specs.Data.{Data, Members}
 use Rattle.role_order.specs.Roles.{with_role}
-use Rattle.policy_text.specs.declared.TheConstants.{MOST_EDGES}
-use Rattle.policy_text.specs.Runs.{set_of}
+use Rattle.arbac_policy.specs.declared.TheConstants.{MOST_EDGES}
+use Rattle.cond_text.specs.Named.{set_of}
 use Rattle.question_text.specs.declared.question_error.QuestionError.{QuestionError}
 use Rattle.question_text.specs.Outcomes.{Fault, Outcome, gives, ◌>>=◌}
 use Rattle.question_text.specs.Keys.{as_list, required, optional, at_most, entries}

@@ -11,12 +11,11 @@ use Rattle.cond_text.specs.Words.{words, placed_words}
 use Rattle.cond_text.proofs.CompleteLemmas.{one_term}
 use Rattle.cond_text.proofs.FaultLemmas.{one_fault}
 use Rattle.cond_text.proofs.JudgeLemmas.{clash}
-use Rattle.policy_text.specs.LineForms.{NamedRange, IsNamedRange, spell_range}
-use Rattle.policy_text.specs.Runs.{AssignRule}
-use Rattle.policy_text.specs.Spelling.{range_in}
-use Rattle.policy_text.specs.declared.TheConstants.{MOST_EDGES, MOST_RULES, MOST_GOALS}
-use Rattle.policy_text.proofs.FormLemmas.{range_found}
-use Rattle.policy_text.proofs.OrderLemmas.{order_clash, refusal_one}
+use Rattle.cond_text.specs.Ranges.{NamedRange, IsNamedRange, spell_range, range_in}
+use Rattle.arbac_policy.specs.PlainRules.{AssignRule}
+use Rattle.arbac_policy.specs.declared.TheConstants.{MOST_EDGES, MOST_RULES, MOST_GOALS}
+use Rattle.cond_text.proofs.RangeLemmas.{range_found}
+use Rattle.cond_text.proofs.OrderLemmas.{order_clash, refusal_one}
 use Rattle.question_text.specs.declared.TheConstants.{MOST_PAIRS, MOST_PROFILES}
 use Rattle.question_text.specs.Outcomes.{no_order, no_cond, Outcome}
 use Rattle.question_text.specs.Keys.{toml_of, as_list, as_two_texts, as_two_different_texts, as_version, as_most, as_filled_list, must_be, required, may_be, optional, of_kind, unless_unknown, first_unknown, knows_only, at_most, entries, key_of}

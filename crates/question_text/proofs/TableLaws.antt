@@ -27,8 +27,9 @@ use Rattle.cond_text.proofs.LimitLemmas.{fine_term}
 use Rattle.arbac_policy.specs.declared.rule.CanRevoke.{CanRevoke}
 use Rattle.arbac_rules.specs.declared.TheConstants.{MOST_CONJUNCTS}
 use Rattle.arbac_rules.specs.Widths.{width}
-use Rattle.policy_text.specs.declared.TheConstants.{MOST_RULES, MOST_GOALS}
-use Rattle.policy_text.specs.Runs.{AssignRule, plain_rule, set_of}
+use Rattle.arbac_policy.specs.declared.TheConstants.{MOST_RULES, MOST_GOALS}
+use Rattle.arbac_policy.specs.PlainRules.{AssignRule, plain_rule}
+use Rattle.cond_text.specs.Named.{set_of}
 use Rattle.question_text.specs.declared.question_error.QuestionError.{QuestionError}
 use Rattle.question_text.specs.Answers.{Answers}
 use Rattle.question_text.specs.Outcomes.{Fault, no_cond, Outcome, fails_if, in_turn}

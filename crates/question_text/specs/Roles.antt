@@ -6,8 +6,8 @@ use Rattle.role_order.specs.declared.order.OrderError.TheVariants.{Memory}
 use Rattle.role_order.specs.Names.{place_of}
 use Rattle.role_order.specs.Roles.{has_role}
 use Rattle.role_order.specs.Refusals.{IsOrder, IsRefused}
-use Rattle.policy_text.specs.declared.TheConstants.{MOST_EDGES}
-use Rattle.policy_text.specs.Runs.{set_of}
+use Rattle.arbac_policy.specs.declared.TheConstants.{MOST_EDGES}
+use Rattle.cond_text.specs.Named.{set_of}
 use Rattle.question_text.specs.declared.TheConstants.{MOST_PAIRS}
 use Rattle.question_text.specs.Outcomes.{wrong_kind, unknown_role, no_order, mixed_role, Outcome, gives, fails, fails_if, ◌>>=◌}
 use Rattle.question_text.specs.Keys.{as_list, as_two_texts, as_two_different_texts, of_kind, required, optional, at_most, entries, entry_of}

@@ -9,8 +9,8 @@ use Rattle.arbac_policy.specs.Truth.{Term, IsKnown}
 use Rattle.arbac_policy.specs.Rules.{IsKnownRange, IsKnownPair}
 use Rattle.cond_text.specs.declared.TheConstants.{MOST_TERMS}
 use Rattle.cond_text.specs.Grammar.{term_count}
-use Rattle.policy_text.specs.declared.TheConstants.{MOST_EDGES, MOST_RULES, MOST_GOALS}
-use Rattle.policy_text.specs.Runs.{AssignRule}
+use Rattle.arbac_policy.specs.declared.TheConstants.{MOST_EDGES, MOST_RULES, MOST_GOALS}
+use Rattle.arbac_policy.specs.PlainRules.{AssignRule}
 use Rattle.arbac_rules.specs.declared.TheConstants.{MOST_CONJUNCTS}
 use Rattle.arbac_rules.specs.Widths.{width}
 use Rattle.question_text.specs.declared.TheConstants.{MOST_PAIRS, MOST_PROFILES, MOST_OF_PROFILE}

@@ -8,9 +8,10 @@ use Rattle.arbac_policy.specs.declared.profile.Profile.{Profile}
 use Rattle.arbac_policy.specs.Truth.{Term, any, has, lacks, both, either}
 use Rattle.cond_text.specs.declared.cond_error.CondError.{CondError}
 use Rattle.cond_text.specs.Reading.{IsFirstOf}
-use Rattle.policy_text.specs.declared.TheConstants.{MOST_RULES, MOST_GOALS}
-use Rattle.policy_text.specs.LineForms.{NamedRange, IsNamedRange, spell_range}
-use Rattle.policy_text.specs.Runs.{AssignRule, ReadsAs}
+use Rattle.arbac_policy.specs.declared.TheConstants.{MOST_RULES, MOST_GOALS}
+use Rattle.cond_text.specs.Ranges.{NamedRange, IsNamedRange, spell_range}
+use Rattle.arbac_policy.specs.PlainRules.{AssignRule}
+use Rattle.cond_text.specs.Named.{ReadsAs}
 use Rattle.arbac_rules.specs.declared.TheConstants.{MOST_CONJUNCTS}
 use Rattle.arbac_rules.specs.Widths.{width}
 use Rattle.question_text.specs.declared.TheConstants.{MOST_PROFILES}

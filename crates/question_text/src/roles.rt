@@ -18,7 +18,7 @@ use crate::keys::{
     at_most, entry_path, of_kind, optional_list, required_list, two_texts, value_at,
 };
 use crate::question_error::QuestionError;
-use policy_text::MOST_EDGES;
+use arbac_policy::MOST_EDGES;
 use role_order::{MOST_ROLES, Order, OrderError, RoleSet};
 use std::alloc::{AllocError, Global};
 use toml::value::Array;

@@ -16,9 +16,10 @@ use Rattle.arbac_rules.specs.Widths.{width}
 use Rattle.arbac_rules.specs.declared.TheConstants.{MOST_CONJUNCTS}
 use Rattle.cond_text.specs.Printing.{text_of}
 use Rattle.cond_text.proofs.PrintLemmas.{stands_of, back_of}
-use Rattle.policy_text.specs.declared.TheConstants.{MOST_RULES, MOST_GOALS}
-use Rattle.policy_text.specs.LineForms.{spell_range}
-use Rattle.policy_text.specs.Runs.{AssignRule, ReadsAs}
+use Rattle.arbac_policy.specs.declared.TheConstants.{MOST_RULES, MOST_GOALS}
+use Rattle.cond_text.specs.Ranges.{spell_range}
+use Rattle.arbac_policy.specs.PlainRules.{AssignRule}
+use Rattle.cond_text.specs.Named.{ReadsAs}
 use Rattle.toml.specs.Data.{Data, integer, Members, get_member}
 use Rattle.toml.specs.Tables.{at_key, along_dots}
 use Rattle.question_text.specs.declared.TheConstants.{MOST_PROFILES, MOST_OF_PROFILE}

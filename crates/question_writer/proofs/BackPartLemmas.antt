@@ -17,7 +17,7 @@ use Rattle.arbac_policy.specs.Truth.{Term, any, has, lacks, both, either}
 use Rattle.arbac_policy.specs.Rules.{IsKnownPair}
 use Rattle.arbac_rules.specs.Widths.{width}
 use Rattle.arbac_rules.specs.declared.TheConstants.{MOST_CONJUNCTS}
-use Rattle.policy_text.specs.Runs.{set_of}
+use Rattle.cond_text.specs.Named.{set_of}
 use Rattle.toml.specs.Data.{Data, item, no_items, Members, get_member}
 use Rattle.question_text.specs.Outcomes.{Fault, too_wide, Outcome, fails_if, in_turn}
 use Rattle.question_text.specs.Keys.{as_list, required, optional, knows_only, first_unknown, at_most, entries, entry_of}

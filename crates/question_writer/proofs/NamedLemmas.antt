@@ -20,8 +20,8 @@ use Rattle.cond_text.specs.Grammar.{Phrase, an_any, a_name, a_not, enclosed, an_
 use Rattle.cond_text.specs.Printing.{phrase_at, written, text_of}
 use Rattle.cond_text.proofs.FewestLemmas.{phrase_value}
 use Rattle.cond_text.proofs.NameLemmas.{IsProper, proper}
-use Rattle.policy_text.specs.LineForms.{spell_range}
-use Rattle.policy_text.proofs.WordLemmas.{name_bytes}
+use Rattle.cond_text.specs.Ranges.{spell_range}
+use Rattle.cond_text.proofs.NamedLemmas.{name_bytes}
 use Rattle.question_writer.specs.Texts.{named}
 use Rattle.question_writer.proofs.ValueLemmas.{IsPlain, names_plain, plain-append}
 

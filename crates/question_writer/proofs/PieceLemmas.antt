@@ -10,7 +10,7 @@ use Rattle.role_order.proofs.SetLemmas.{has_role-below}
 use Rattle.arbac_policy.specs.declared.profile.Profile.{Profile}
 use Rattle.arbac_policy.specs.declared.rule.CanRevoke.{CanRevoke}
 use Rattle.arbac_policy.specs.Truth.{Term}
-use Rattle.policy_text.specs.Runs.{AssignRule}
+use Rattle.arbac_policy.specs.PlainRules.{AssignRule}
 use Rattle.question_writer.specs.Texts.{line, quoted, listed, role_text, pair_text, version_text, truth_text, exclusive_text, goal_text, assign_text, revoke_text, profile_text, keys_text, tables_text}
 use Rattle.question_text.specs.Values.{QuestionValue}
 

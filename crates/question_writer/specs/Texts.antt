@@ -7,8 +7,8 @@ use Rattle.arbac_policy.specs.declared.rule.CanRevoke.{CanRevoke}
 use Rattle.arbac_policy.specs.declared.profile.Profile.{Profile}
 use Rattle.arbac_policy.specs.Truth.{Term}
 use Rattle.cond_text.specs.Printing.{text_of}
-use Rattle.policy_text.specs.LineForms.{NamedRange, spell_range}
-use Rattle.policy_text.specs.Runs.{AssignRule}
+use Rattle.cond_text.specs.Ranges.{NamedRange, spell_range}
+use Rattle.arbac_policy.specs.PlainRules.{AssignRule}
 use Rattle.question_text.specs.Values.{QuestionValue}
 
 -- `key = value`

@@ -3,7 +3,7 @@ use Rattle.std.specs.Prelude.{codes}
 use Rattle.toml.specs.View.{array_view, view}
 use Rattle.arbac_policy.specs.declared.cond.Cond.{Cond}
 use Rattle.arbac_policy.specs.Truth.{term_of}
-use Rattle.policy_text.specs.declared.TheConstants.{MOST_GOALS}
+use Rattle.arbac_policy.specs.declared.TheConstants.{MOST_GOALS}
 use Rattle.question_text.specs.Keys.{list_of, as_filled_list, at_most, entries}
 use Rattle.question_text.specs.Answers.{IsToldBy, fault_of}
 use Rattle.question_text.specs.Tables.{a_goal_condition, not_wide_goal, a_goal}

@@ -1,6 +1,6 @@
 use Rattle.std.specs.Prelude.{codes}
 use Rattle.toml.specs.View.{table_view, array_view}
-use Rattle.policy_text.specs.declared.TheConstants.{MOST_EDGES}
+use Rattle.arbac_policy.specs.declared.TheConstants.{MOST_EDGES}
 use Rattle.question_text.specs.Keys.{list_of}
 use Rattle.question_text.specs.Roles.{an_edge, listed_roles}
 use Rattle.question_text.specs.Answers.{fault_of}

@@ -1,5 +1,5 @@
 use Rattle.std.proofs.Common.{List, ap, arith, sym, rules}
-use Rattle.policy_text.specs.Runs.{AssignRule, plain_rule}
+use Rattle.arbac_policy.specs.PlainRules.{AssignRule, plain_rule}
 use Rattle.policy_text.specs.Steps.{run_view}
 use Rattle.policy_text.proofs.WordLemmas.{map-pushed}
 use Rattle.policy_text.proofs.UserLemmas.{map_long}

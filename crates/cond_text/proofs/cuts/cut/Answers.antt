@@ -1,6 +1,6 @@
 use Rattle.std.proofs.Common.{ℕ, ◌≡◌, ◌+◌, ◌∙◌, ap, sym, take, get_or, Some, arith, rules, List}
-use Rattle.policy_text.proofs.LineLemmas.{cut_found, take_rest}
-use Rattle.policy_text.proofs.lines.cut.Goals as goal
+use Rattle.cond_text.proofs.CutLemmas.{cut_found, take_rest}
+use Rattle.cond_text.proofs.cuts.cut.Goals as goal
 
 pub returns-then-byte-sign : goal.returns-then-byte-sign
 returns-then-byte-sign c =
