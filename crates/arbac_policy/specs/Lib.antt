@@ -4,6 +4,5 @@ pub mod PlainRules
 pub mod Policies
 pub mod Holders
 pub mod Steps
-pub mod Embeds
 pub mod Goals
 pub mod Verdicts

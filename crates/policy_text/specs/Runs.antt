@@ -1,7 +1,7 @@
 -- What a run text stands for: a role order, rules for users, start sets, acts and goal conditions.
 use Rattle.std.specs.Prelude.{ℕ, ◌≡◌, ◌+◌, ◌<◌, ◌≤◌, List, [], ◌∷◌, ◌++◌, map, length, Result, Ok, Err, codes}
 use Rattle.role_order.specs.declared.TheConstants.{MOST_ROLES}
-use Rattle.role_order.specs.Lists.{Each}
+use Rattle.list_words.specs.Lists.{Each}
 use Rattle.role_order.specs.Refusals.{IsOrder}
 use Rattle.arbac_policy.specs.declared.act.Act.{Act}
 use Rattle.arbac_policy.specs.declared.rule.CanRevoke.{CanRevoke}

@@ -11,7 +11,7 @@ ghost use Rattle.cond_text.specs.Named.{ReadsAs, NamesRange, NamesSet, HasUnknow
 ghost use Rattle.policy_text.specs.Runs.{Adds, behind_edges, behind_assigns, behind_revokes, behind_users, behind_acts};
 ghost use Rattle.policy_text.specs.Faults.{IsLineFault, EndsOrder};
 ghost use Rattle.policy_text.specs.Steps.{body_view, run_view, order_view, IsFormFault, IsTextFault, AddsLine, EndsWith, IsBodyFault};
-ghost use Rattle.role_order.specs.Lists.{Some_of};
+ghost use Rattle.list_words.specs.Lists.{Some_of};
 ghost use Rattle.role_order.specs.Refusals.{IsOrder};
 
 use crate::line::{Line, read_line};
