@@ -15,7 +15,7 @@ pub use cond_text::{CondError, MOST_OPEN, MOST_TERMS, parse_cond, print_cond};
 pub use conjunct::Conjunct;
 pub use listing::{WideError, conjuncts};
 pub use std::alloc::AllocError as NoMemory;
-pub use width::width_of;
+pub use width::{too_many, width_of};
 
 /// The greatest number of conjuncts of a condition that are listed.
 pub const MOST_CONJUNCTS: usize = 1_024;

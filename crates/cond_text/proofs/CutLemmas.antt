@@ -1,5 +1,5 @@
 -- Pieces of a text before a byte and behind it.
-use Rattle.std.proofs.Common.{ℕ, ◌≡◌, ◌<◌, ◌+◌, ◌-◌, Bool, true, false, List, [], ◌∷◌, ◌++◌, length, length-drop, get_or, take, drop, refl, arith, sym, ap, Option, Some, None, eqb, zero, suc, cond}
+use Rattle.std.proofs.Common.{ℕ, ◌≡◌, ◌<◌, ◌+◌, Bool, true, false, List, [], ◌∷◌, ◌++◌, length, get_or, take, drop, refl, arith, sym, ap, Option, Some, None, eqb, zero, suc, cond}
 use Rattle.std.proofs.lemmas.Bool.{ne_eqb, eq-eqb, eqb-true}
 use Rattle.cond_text.specs.Cuts.{◌>>=◌, only_if, cut, with_front}
 
@@ -11,9 +11,6 @@ step_of (Some x) f y e = (x, refl, e)
 pub only_is : {A : Type 0} (t : Bool) (x y : A) → only_if t x ≡ Some y → (t ≡ true) × (x ≡ y)
 only_is true x y e = (refl, cc)
 only_is false x y e = absurd (cc)
-
-pub same_some : {A : Type 0} (x y : A) → Some x ≡ Some y → x ≡ y
-same_some x y e = cc
 
 pub cut_found : (sign : ℕ) (bytes : List ℕ) (i : ℕ) → i < length bytes → ((k : ℕ) → k < i → get_or bytes k 0 ≡ sign → ⊥) → get_or bytes i 0 ≡ sign
     → cut sign bytes ≡ Some (take i bytes, drop (i + 1) bytes)
@@ -31,13 +28,6 @@ cut_none sign [] before = refl
 cut_none sign (b ∷ bs) before =
     let e : eqb b sign ≡ false = ne_eqb b sign (before 0 (omega arith)) in
     rw (e, cut_none sign bs (λ k m. before (suc k) (omega arith)))
-
-take_all : (xs : List ℕ) → take (length xs) xs ≡ xs
-take_all [] = refl
-take_all (x ∷ xs) = ap (λ t. x ∷ t) (take_all xs)
-
-pub take_rest : (bytes : List ℕ) (n : ℕ) → take (length bytes - n) (drop n bytes) ≡ drop n bytes
-take_rest bytes n = rw (← length-drop n bytes) (take_all (drop n bytes))
 
 pub same_pair : {A B : Type 0} (p q : A × B) → Some p ≡ Some q → (p.0 ≡ q.0) × (p.1 ≡ q.1)
 same_pair {A} {B} p q e = let same : p ≡ q = cc in (ap (λ (r : A × B). r.0) same, ap (λ (r : A × B). r.1) same)

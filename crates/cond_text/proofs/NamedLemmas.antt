@@ -9,18 +9,11 @@ use Rattle.std.proofs.lemmas.Str.{IsUtf8-from_ascii}
 use Rattle.role_order.specs.Names.{is_name, is_name_byte}
 use Rattle.cond_text.specs.Cuts.{IsName, only_if, name_in}
 use Rattle.cond_text.proofs.CutLemmas.{Lacks}
-
-pub and_left : (a b : Bool) → (a && b) ≡ true → a ≡ true
-and_left true b h = refl
-and_left false b h = cc
-
-pub and_right : (a b : Bool) → (a && b) ≡ true → b ≡ true
-and_right true b h = h
-and_right false b h = cc
+use Rattle.list_words.proofs.TestLemmas.{and_both}
 
 pub name_bytes : (text : List ℕ) → is_name text ≡ true → list_all is_name_byte text ≡ true
 unfolding is_name
-name_bytes text h = and_right (leb 1 (length text) && leb (length text) 64) _ h
+name_bytes text h = (and_both (leb 1 (length text) && leb (length text) 64) _ h).1
 
 byte_small : (b : ℕ) → is_name_byte b ≡ true → b < 128
 byte_small b h = by_size (ltb b 128) refl
@@ -31,8 +24,8 @@ byte_small b h = by_size (ltb b 128) refl
 
 are_small : (text : List ℕ) → list_all is_name_byte text ≡ true → IsAscii text
 are_small [] h i = omega arith
-are_small (b ∷ bs) h zero = byte_small b (and_left (is_name_byte b) _ h)
-are_small (b ∷ bs) h (suc i) = are_small bs (and_right (is_name_byte b) _ h) i
+are_small (b ∷ bs) h zero = byte_small b ((and_both (is_name_byte b) _ h).0)
+are_small (b ∷ bs) h (suc i) = are_small bs ((and_both (is_name_byte b) _ h).1) i
 
 -- a name is text
 pub name_text : (text : List ℕ) → is_name text ≡ true → IsUtf8 text
@@ -41,10 +34,10 @@ name_text text h = IsUtf8-from_ascii text (are_small text (name_bytes text h))
 -- a text of such bytes alone has no other byte
 pub lacks_other : (p : ℕ → Bool) (sign : ℕ) (text : List ℕ) → p sign ≡ false → list_all p text ≡ true → Lacks sign text
 lacks_other p sign [] out h = tt
-lacks_other p sign (b ∷ bs) out h = (ne_eqb b sign (λ e. absurd (other e)), lacks_other p sign bs out (and_right (p b) _ h))
+lacks_other p sign (b ∷ bs) out h = (ne_eqb b sign (λ e. absurd (other e)), lacks_other p sign bs out ((and_both (p b) _ h).1))
   where
     other : b ≡ sign → ⊥
-    other same = let there : p sign ≡ true = ap p (sym same) ∙ and_left (p b) _ h in cc
+    other same = let there : p sign ≡ true = ap p (sym same) ∙ (and_both (p b) _ h).0 in cc
 
 -- a name has none of the bytes that aren't a name's
 pub name_lacks : (sign : ℕ) (text : List ℕ) → is_name_byte sign ≡ false → is_name text ≡ true → Lacks sign text

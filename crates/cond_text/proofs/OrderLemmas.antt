@@ -14,8 +14,7 @@ use Rattle.role_order.specs.Names.{place_of, is_role_name}
 use Rattle.role_order.specs.Graph.{Leads, IsEdge, AreEdges, IsCycle}
 use Rattle.role_order.specs.Refusals.{AreRoleNames, IsOrder, IsRepeated, IsRefused}
 use Rattle.list_words.proofs.EachLemmas.{each_at}
-use Rattle.list_words.proofs.GetLemmas.{get_take, get_taken}
-use Rattle.cond_text.proofs.CutLemmas.{same_some}
+use Rattle.list_words.proofs.GetLemmas.{get_take, get_taken, same_some}
 
 prefix_at : (name : List ℕ) (names : List (List ℕ)) → position_or_len (λ other. bytes_eq other name) names < length names
     → slice_get names (position_or_len (λ other. bytes_eq other name) names) ≡ Some name

@@ -4,8 +4,9 @@ use Rattle.std.specs.Prelude.{codes}
 use Rattle.std.proofs.lemmas.Bool.{eqb-true}
 use Rattle.cond_text.specs.Cuts.{IsName, cut, name_in}
 use Rattle.cond_text.specs.Ranges.{NamedRange, IsNamedRange, opening_text, closing_text, spell_range, opening_in, closed_by, or_open, closing_in, range_in}
-use Rattle.cond_text.proofs.CutLemmas.{step_of, only_is, same_some, Lacks, lacks_append, cut_behind, cut_nowhere, cut_is, nothing_is}
+use Rattle.cond_text.proofs.CutLemmas.{step_of, only_is, Lacks, lacks_append, cut_behind, cut_nowhere, cut_is, nothing_is}
 use Rattle.cond_text.proofs.NamedLemmas.{name_lacks, name_found, named}
+use Rattle.list_words.proofs.GetLemmas.{same_some}
 
 closed_found : (high : List ℕ) → IsName high → closing_in (high ++ codes "]") ≡ Some (high, false)
 unfolding closing_in

@@ -9,8 +9,8 @@ use Rattle.cond_text.specs.declared.level.Level.{Level}
 use Rattle.cond_text.specs.declared.level.Level.TheVariants.{Operand, Conjunction, Condition}
 use Rattle.arbac_policy.specs.Truth.{Term}
 use Rattle.cond_text.specs.Grammar.{Phrase, an_any, a_name, a_not, enclosed, an_and, an_or, IsAt, spell, value, Stands}
-use Rattle.cond_text.proofs.CutLemmas.{same_some}
 use Rattle.cond_text.specs.Machine.{Frame, State, wants_operand, wants_name, has_conjunction, and_with, or_with, step, go, finish, start, accept}
+use Rattle.list_words.proofs.GetLemmas.{same_some}
 
 -- a phrase of the level, where there is one
 abbrev IsMaybe : Level → Option Phrase → Type 0

@@ -1,5 +1,5 @@
 -- Each line that has a form is read as that form.
-use Rattle.std.proofs.Common.{ℕ, ◌≡◌, ◌<◌, ◌^◌, List, [], ◌∷◌, ◌++◌, append_assoc, refl, sym, ◌∙◌, ap, Some}
+use Rattle.std.proofs.Common.{ℕ, ◌≡◌, ◌<◌, ◌^◌, List, [], ◌∷◌, ◌++◌, append_assoc, append-nil, refl, sym, ◌∙◌, ap, Some}
 use Rattle.std.specs.Prelude.{codes}
 use Rattle.std.specs.Fmt.{decimal}
 use Rattle.std.specs.Str.{IsUtf8}
@@ -47,22 +47,14 @@ revoke_found admin range h k = rw (cut_behind 32 admin (spell_range range) (name
 
 words_found : (name : List ℕ) (names : List (List ℕ)) → IsName name → Each IsName names → words (name ++ spell_names names) ≡ name ∷ names
 words_found name [] h k =
-    words_one (name ++ []) (cut_nowhere 32 (name ++ []) (lacks_append 32 name [] (name_lacks 32 name refl h) tt)) ∙ ap (λ n. n ∷ []) (append_nil name)
-  where
-    append_nil : (xs : List ℕ) → xs ++ [] ≡ xs
-    append_nil [] = refl
-    append_nil (x ∷ xs) = ap (λ t. x ∷ t) (append_nil xs)
+    words_one (name ++ []) (cut_nowhere 32 (name ++ []) (lacks_append 32 name [] (name_lacks 32 name refl h) tt)) ∙ ap (λ n. n ∷ []) (append-nil name)
 words_found name (next ∷ names) h k =
     words_cut (name ++ (32 ∷ (next ++ spell_names names))) name (next ++ spell_names names) (cut_behind 32 name (next ++ spell_names names) (name_lacks 32 name refl h))
     ∙ ap (λ t. name ∷ t) (words_found next names k.0 k.1)
 
 all_names : (before names : List (List ℕ)) → Each IsName names → names_behind before names ≡ Some (before ++ names)
 unfolding names_behind
-all_names before [] h = ap Some (sym (append_nil before))
-  where
-    append_nil : (xs : List (List ℕ)) → xs ++ [] ≡ xs
-    append_nil [] = refl
-    append_nil (x ∷ xs) = ap (λ t. x ∷ t) (append_nil xs)
+all_names before [] h = ap Some (sym (append-nil before))
 all_names before (name ∷ names) h = rw h.0 (all_names (before ++ name ∷ []) names h.1 ∙ ap Some (append_assoc before (name ∷ []) names))
 
 user_found : (name : List ℕ) (names : List (List ℕ)) → IsName name → Each IsName names → user_in (name ++ spell_names names) ≡ Some (a_user (name ∷ names))

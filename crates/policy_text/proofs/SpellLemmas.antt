@@ -16,10 +16,12 @@ use Rattle.cond_text.specs.Cuts.{cut, IsName, only_if, name_in}
 use Rattle.cond_text.specs.Ranges.{spell_range, range_in}
 use Rattle.policy_text.specs.LineForms.{LineForm, a_role, an_edge, an_assign, a_revoke, a_user, an_act, a_goal, IsWellFormed, spell, spell_kind, spell_names}
 use Rattle.policy_text.specs.Spelling.{text_in, number_in, kind_in, role_in, edge_in, assign_in, revoke_in, user_in, words, in_first, names_behind, act_in, goal_in, keyword_in, form_with, form_by, form_of}
-use Rattle.cond_text.proofs.CutLemmas.{step_of, only_is, same_some, cut_is}
+use Rattle.cond_text.proofs.CutLemmas.{step_of, only_is, cut_is}
 use Rattle.cond_text.proofs.NamedLemmas.{named}
 use Rattle.policy_text.proofs.NumberLemmas.{number_is}
 use Rattle.cond_text.proofs.RangeLemmas.{ranged}
+use Rattle.list_words.proofs.EachLemmas.{each_append}
+use Rattle.list_words.proofs.GetLemmas.{same_some}
 
 a_text : (text found : List ℕ) → text_in text ≡ Some found → IsUtf8 found × (found ≡ text)
 unfolding text_in
@@ -102,10 +104,6 @@ words_spelled (b ∷ bs) = by_byte (eqb b 32) refl (words_spelled bs)
     by_byte true t tail = let at : b ≡ 32 = eqb-true b 32 t in ap (λ l. 32 ∷ l) (tail ∙ ap (λ c. c ∷ bs) (sym at))
     by_byte false t tail = in_first_spelled b (words bs) bs tail
 
-each_append : (xs ys : List (List ℕ)) → Each IsName xs → Each IsName ys → Each IsName (xs ++ ys)
-each_append [] ys h k = k
-each_append (x ∷ xs) ys h k = (h.0, each_append xs ys h.1 k)
-
 names_are : (before more names : List (List ℕ)) → names_behind before more ≡ Some names → Each IsName before → Each IsName names × (before ++ more ≡ names)
 unfolding names_behind
 names_are before [] names e h =
@@ -116,7 +114,7 @@ names_are before [] names e h =
     append_nil [] = refl
     append_nil (x ∷ xs) = ap (λ t. x ∷ t) (append_nil xs)
 names_are before (word ∷ more) names e h =
-    by_name (is_name word) refl e (λ f t. names_are (before ++ word ∷ []) more names f (each_append before (word ∷ []) h (t, tt)))
+    by_name (is_name word) refl e (λ f t. names_are (before ++ word ∷ []) more names f (each_append IsName before (word ∷ []) h (t, tt)))
   where
     by_name : (t : Bool) → is_name word ≡ t → cond t (names_behind (before ++ word ∷ []) more) None ≡ Some names
         → (names_behind (before ++ word ∷ []) more ≡ Some names → is_name word ≡ true → Each IsName names × ((before ++ word ∷ []) ++ more ≡ names)) → Each IsName names × (before ++ (word ∷ more) ≡ names)

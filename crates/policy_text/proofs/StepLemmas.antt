@@ -3,7 +3,6 @@ use Rattle.std.proofs.Common.{ℕ, ◌≡◌, ◌≤◌, ◌+◌, inl, Bool, tru
 use Rattle.std.specs.Str.{bytes_eq}
 use Rattle.std.proofs.lemmas.Bool.{eq-eqb, eqb-true}
 use Rattle.std.proofs.lemmas.Slice.Eq.{bytes_eq-Decides}
-use Rattle.cond_text.proofs.NamedLemmas.{and_left, and_right}
 use Rattle.std.specs.Prelude.{◌&&◌, not, codes, OnOk, IfErr, Result, Ok, Err}
 use Rattle.list_words.specs.Lists.{Each}
 use Rattle.role_order.specs.Refusals.{IsOrder}
@@ -20,6 +19,7 @@ use Rattle.policy_text.specs.Steps.{IsFormFault, AddsLine, Passes, StopsAt, Told
 use Rattle.policy_text.proofs.LineLemmas.{split_none, split_first, split_empty, nothing_left}
 use Rattle.policy_text.proofs.FormLemmas.{form_found}
 use Rattle.policy_text.proofs.SpellLemmas.{form_is}
+use Rattle.list_words.proofs.TestLemmas.{and_both}
 
 -- the first word of a line tells whether it is one of the role order
 pub order_line_is : (form : LineForm) → is_order_line (spell form) ≡ tells_order form
@@ -179,7 +179,7 @@ body_stop run mid text rest line later number at Memory p c past f = tt
 
 pub is_last : (line : List ℕ) (n : ℕ) → (bytes_eq line (codes "end") && not (eqb n 0)) ≡ true → (line ≡ codes "end") × (n ≡ 0 → ⊥)
 is_last line n e =
-    ((bytes_eq-Decides line (codes "end")).0 (and_left (bytes_eq line (codes "end")) _ e), λ z. none (eqb n 0) (eq-eqb n 0 z) (and_right (bytes_eq line (codes "end")) _ e))
+    ((bytes_eq-Decides line (codes "end")).0 ((and_both (bytes_eq line (codes "end")) _ e).0), λ z. none (eqb n 0) (eq-eqb n 0 z) ((and_both (bytes_eq line (codes "end")) _ e).1))
   where
     none : (t : Bool) → t ≡ true → not t ≡ true → ⊥
     none true a b = absurd (cc)
@@ -198,7 +198,8 @@ longer_by_one : {A : Type 0} (xs : List A) (x : A) (n : ℕ) → length (xs ++ x
 longer_by_one [] x n e = omega arith
 longer_by_one (y ∷ ys) x n e = omega arith
 
-zero_both : (a b : ℕ) → a + b ≡ 0 → (a ≡ 0) × (b ≡ 0)
+-- a sum that is 0 has parts that are
+pub zero_both : (a b : ℕ) → a + b ≡ 0 → (a ≡ 0) × (b ≡ 0)
 zero_both a b e = (omega arith, omega arith)
 
 -- behind a line that is none of the role order's, a later section has begun

@@ -12,7 +12,9 @@ use Rattle.std.proofs.lemmas.Str.Parse.{IsNumeralModel, IsDigitsTest, numerals_b
 use Rattle.cond_text.specs.Cuts.{cut, with_front, only_if, name_in}
 use Rattle.policy_text.specs.Spelling.{text_in, is_numeral, number_in, words, in_first, names_behind}
 use Rattle.cond_text.proofs.CutLemmas.{same_pair}
-use Rattle.cond_text.proofs.NamedLemmas.{and_left, and_right, name_is, no_name}
+use Rattle.cond_text.proofs.NamedLemmas.{name_is, no_name}
+use Rattle.list_words.proofs.TestLemmas.{and_both}
+use Rattle.std.proofs.lemmas.List.{map-append}
 
 pub text_given : (bytes text : List ℕ) → text ≡ bytes → IsUtf8 bytes → Some text ≡ text_in bytes
 unfolding text_in
@@ -39,11 +41,11 @@ number_refused bytes h = rw h refl
 
 pub digits_of : (bytes : List ℕ) → is_numeral bytes ≡ true → list_all is_ascii_digit bytes ≡ true
 unfolding is_numeral
-digits_of bytes h = and_left (list_all is_ascii_digit bytes) _ (and_left (list_all is_ascii_digit bytes && not (eqb (length bytes) 0)) _ h)
+digits_of bytes h = (and_both (list_all is_ascii_digit bytes) _ ((and_both (list_all is_ascii_digit bytes && not (eqb (length bytes) 0)) _ h).0)).0
 
 pub numeral_long : (bytes : List ℕ) → is_numeral bytes ≡ true → 0 < length bytes
 unfolding is_numeral
-numeral_long bytes h = longer bytes (and_right (list_all is_ascii_digit bytes) _ (and_left (list_all is_ascii_digit bytes && not (eqb (length bytes) 0)) _ h))
+numeral_long bytes h = longer bytes ((and_both (list_all is_ascii_digit bytes) _ ((and_both (list_all is_ascii_digit bytes && not (eqb (length bytes) 0)) _ h).0)).1)
   where
     longer : (bytes : List ℕ) → not (eqb (length bytes) 0) ≡ true → 0 < length bytes
     longer [] e = absurd (cc)
@@ -58,8 +60,8 @@ numeral_text bytes h = IsUtf8-from_ascii bytes (small bytes (digits_of bytes h))
   where
     small : (text : List ℕ) → list_all is_ascii_digit text ≡ true → IsAscii text
     small [] h i = omega arith
-    small (b ∷ bs) h zero = digit_small b (and_left (is_ascii_digit b) _ h)
-    small (b ∷ bs) h (suc i) = small bs (and_right (is_ascii_digit b) _ h) i
+    small (b ∷ bs) h zero = digit_small b ((and_both (is_ascii_digit b) _ h).0)
+    small (b ∷ bs) h (suc i) = small bs ((and_both (is_ascii_digit b) _ h).1) i
 
 pub number_parsed : {E : Type 0} (bytes : List ℕ) (r : Result ℕ E) → is_numeral bytes ≡ true → ParsesUnsigned 32 10 bytes r → result_ok r ≡ number_in bytes
 unfolding number_in
@@ -127,9 +129,5 @@ pub names_no_last : (before : List (List ℕ)) (bytes : List ℕ) → cut 32 byt
 unfolding names_behind
 names_no_last before bytes e n = rw (words_one bytes e, no_name bytes n) refl
 
-pub map-push : {A B : Type 0} (f : A → B) (xs : List A) (x : A) → map f (xs ++ x ∷ []) ≡ map f xs ++ f x ∷ []
-map-push f [] x = refl
-map-push f (y ∷ ys) x = ap (λ t. f y ∷ t) (map-push f ys x)
-
 pub map-pushed : {A B : Type 0} (f : A → B) (xs ys : List A) (x : A) → ys ≡ xs ++ x ∷ [] → map f ys ≡ map f xs ++ f x ∷ []
-map-pushed f xs ys x e = ap (map f) e ∙ map-push f xs x
+map-pushed f xs ys x e = ap (map f) e ∙ map-append f xs (x ∷ [])
