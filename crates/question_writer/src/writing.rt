@@ -12,13 +12,14 @@ ghost use Rattle.question_writer.specs.Texts.{line, quoted, listed, role_text, p
 ghost use Rattle.question_text.specs.Values.{plain_of};
 
 use crate::pieces::{
-    put, put_condition, put_conditions, put_header, put_key, put_names, put_number, put_pairs,
-    put_quoted, put_range, put_role, put_roles, roles_of,
+    put_condition, put_conditions, put_header, put_key, put_names, put_pairs, put_quoted,
+    put_range, put_role, put_roles, roles_of,
 };
 use arbac_policy::{CanAssign, CanRevoke, Cond, Profile};
 use question_text::Question;
 use role_order::{Order, Range, RoleSet};
 use std::alloc::{AllocError, Global};
+use text_pieces::{put, put_number};
 
 fn version_word(pairs: &[(u16, u16)]) -> &'static str
     ensures { result.now ≡ version_text pairs.now }
@@ -164,7 +165,7 @@ fn put_most(alloc: Global, text: &mut Vec<u8>, most: Option<u32>) -> Result<(), 
     ensures { OnOk result (text.new.items ≡ text.old.items ++ most_text most) }
 {
     match most {
-        Some(most) => put_number(alloc, text, most)?,
+        Some(most) => put_number(alloc, text, most as u64)?,
         None => put_quoted(text, "any")?,
     }
     Ok(())
