@@ -10,6 +10,7 @@ use Rattle.cond_text.specs.declared.level.Level.TheVariants.{Operand, Conjunctio
 use Rattle.arbac_policy.specs.Truth.{Term}
 use Rattle.cond_text.specs.Grammar.{Phrase, an_any, a_name, a_not, enclosed, an_and, an_or, IsAt, spell, value, Stands}
 use Rattle.cond_text.specs.Machine.{Frame, State, wants_operand, wants_name, has_conjunction, and_with, or_with, step, go, finish, start, accept}
+use Rattle.list_words.proofs.GetLemmas.{same_some}
 
 -- a phrase of the level, where there is one
 abbrev IsMaybe : Level → Option Phrase → Type 0
@@ -72,9 +73,6 @@ operand_next : (draw : Draw) (w : Word) (ds : List Draft) (ors ands : Option Phr
     → Next draw w next
 operand_next draw w ds ors None q next h k i j spelled e = record { drawn = drawn_conjunction ds ors q h j; same = e; spelled = spelled }
 operand_next draw w ds ors (Some p) q next h k i j spelled e = record { drawn = drawn_conjunction ds ors (an_and p q) h (refl, k, i); same = e; spelled = spelled }
-
-same_some : (s t : State) → Some s ≡ Some t → s ≡ t
-same_some s t e = cc
 
 wanting_next : (ds : List Draft) (d : Draft) (w : Word) (next : State) → step (state_of (drawn_operand ds d)) w ≡ Some next → Next (drawn_operand ds d) w next
 wanting_next ds d Any next e = operand_next (drawn_operand ds d) Any ds d.ors d.ands an_any next d.ors_at d.ands_at tt tt (λ rest. refl) (same_some _ _ e)

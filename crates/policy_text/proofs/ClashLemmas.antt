@@ -17,11 +17,13 @@ use Rattle.cond_text.specs.Reading.{IsRefused as IsRefusedCond}
 use Rattle.policy_text.specs.declared.run_error.RunError.{RunError}
 use Rattle.policy_text.specs.declared.run_error.RunError.TheVariants.{BadLine, UnknownRole, Order, Cond, TooMany, Unended, Memory}
 use Rattle.policy_text.specs.Lines.{split, is_order_line}
-use Rattle.policy_text.specs.LineForms.{LineForm, NamedRange, a_role, an_edge, an_assign, a_revoke, a_user, an_act, a_goal, IsWellFormed, tells_order, spell}
+use Rattle.cond_text.specs.Ranges.{NamedRange}
+use Rattle.policy_text.specs.LineForms.{LineForm, a_role, an_edge, an_assign, a_revoke, a_user, an_act, a_goal, IsWellFormed, tells_order, spell}
 use Rattle.policy_text.specs.Spelling.{form_of}
-use Rattle.policy_text.specs.Runs.{RunValue, nothing, MayStand, HasRoom, Names, NameEach, ReadsAs, Extends, Adds, AddAll, behind_edges, IsReadTo, StandsFor}
-use Rattle.policy_text.specs.Faults.{IsUnknown, HasUnknown, HasCondFault, IsLineFault, EndsOrder, IsFaultInside, IsFaultAhead, IsFaultBehind, IsOrderFault, IsUnended, IsFirstFault}
-use Rattle.policy_text.proofs.OrderLemmas.{order_clash}
+use Rattle.cond_text.specs.Named.{Names, NameEach, ReadsAs, IsUnknown}
+use Rattle.policy_text.specs.Runs.{RunValue, nothing, MayStand, HasRoom, Extends, Adds, AddAll, behind_edges, IsReadTo, StandsFor}
+use Rattle.policy_text.specs.Faults.{HasUnknown, HasCondFault, IsLineFault, EndsOrder, IsFaultInside, IsFaultAhead, IsFaultBehind, IsOrderFault, IsUnended, IsFirstFault}
+use Rattle.cond_text.proofs.OrderLemmas.{order_clash}
 use Rattle.policy_text.proofs.FormLemmas.{form_found}
 use Rattle.policy_text.proofs.StepLemmas.{order_line_is, no_end, begun}
 use Rattle.policy_text.proofs.SoleLemmas.{extends_one}

@@ -21,7 +21,7 @@ use Rattle.policy_text.specs.Runs.{RunValue, nothing, HasRoom, Adds, AddAll, beh
 use Rattle.policy_text.specs.Faults.{HasUnknown, HasCondFault, IsPlaced, IsLineFault, IsPastOrder, EndsOrder, IsFaultInside, IsFaultAhead, IsFirstFault}
 use Rattle.policy_text.proofs.StepLemmas.{order_line_is}
 use Rattle.policy_text.proofs.SoleLemmas.{extends_one}
-use Rattle.policy_text.proofs.OrderLemmas.{order_clash, refusal_one}
+use Rattle.cond_text.proofs.OrderLemmas.{order_clash, refusal_one}
 use Rattle.policy_text.proofs.ClashLemmas.{IsOnTheWay, cond_clash_at, adds_clash, end_clash, no_last, spell_one, same_cons, keep_one, no_order, still_late, keep_all}
 
 -- conditions

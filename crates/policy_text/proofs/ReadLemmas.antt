@@ -2,7 +2,6 @@
 use Rattle.std.proofs.Common.{ℕ, ◌≡◌, ◌+◌, inl, inr, List, [], ◌∷◌, ◌++◌, length, refl, arith, sym, ◌∙◌, ap, subst, Some, None, map, suc, Result, Ok, Err, IfOk, IfErr}
 use Rattle.std.specs.Prelude.{codes}
 use Rattle.role_order.specs.declared.order.OrderError.TheVariants as refusals
-use Rattle.list_words.specs.Lists.{Each}
 use Rattle.role_order.specs.Graph.{Graph}
 use Rattle.arbac_policy.specs.Rules.{IsPolicy, AreCountable, policy_of}
 use Rattle.role_order.specs.Names.{texts}
@@ -10,26 +9,26 @@ use Rattle.policy_text.specs.declared.listing.Listing.{Listing}
 use Rattle.policy_text.specs.declared.body.Body.{Body}
 use Rattle.policy_text.specs.declared.run_error.RunError.{RunError}
 use Rattle.policy_text.specs.declared.run_error.RunError.TheVariants.{BadLine, UnknownRole, Order, Cond, TooMany, Unended, Memory}
-use Rattle.policy_text.specs.Lines.{split, cut}
+use Rattle.cond_text.specs.Cuts.{cut}
+use Rattle.policy_text.specs.Lines.{split}
 use Rattle.policy_text.specs.LineForms.{LineForm, IsWellFormed, spell}
 use Rattle.policy_text.specs.declared.run.Run.{Run}
-use Rattle.policy_text.specs.Runs.{RunValue, nothing, plain_rule, plain_of, behind_edges, AddAll, IsReadTo, StandsFor, Reads}
+use Rattle.arbac_policy.specs.PlainRules.{plain_rule}
+use Rattle.policy_text.specs.Runs.{RunValue, nothing, plain_of, behind_edges, AddAll, IsReadTo, StandsFor, Reads}
 use Rattle.policy_text.proofs.ClashLemmas.{one_run, first_clash}
 use Rattle.policy_text.proofs.FirstLemmas.{one_fault}
 use Rattle.policy_text.specs.Faults.{EndsOrder, IsFaultInside, IsFirstFault, IsRefused, Tells}
 use Rattle.policy_text.specs.Steps.{listing_view, order_view, run_view, IsOrderTold, Passes, StopsAt, EndsWith, IsBodyFault, Told}
-use Rattle.policy_text.proofs.LineLemmas.{split_none, split_first, cut_joined}
-use Rattle.policy_text.proofs.UserLemmas.{map_long}
+use Rattle.cond_text.proofs.CutLemmas.{cut_joined}
+use Rattle.policy_text.proofs.LineLemmas.{split_none, split_first}
 use Rattle.policy_text.proofs.RunLemmas.{few_nothing}
 use Rattle.policy_text.proofs.SoleLemmas.{known_nothing, each_plain}
+use Rattle.list_words.proofs.EachLemmas.{each_append}
+use Rattle.std.proofs.lemmas.List.{length-map}
 
 add_append : (run mid last : RunValue) (xs ys : List LineForm) → AddAll run xs mid → AddAll mid ys last → AddAll run (xs ++ ys) last
 add_append run mid last [] ys a b = subst (λ (r : RunValue). AddAll r ys last) a b
 add_append run mid last (x ∷ xs) ys a b = (a.0, a.1, add_append a.0 mid last xs ys a.2 b)
-
-each_append : (xs ys : List LineForm) → Each IsWellFormed xs → Each IsWellFormed ys → Each IsWellFormed (xs ++ ys)
-each_append [] ys a b = b
-each_append (x ∷ xs) ys a b = (a.0, each_append xs ys a.1 b)
 
 spell_append : (xs ys : List LineForm) (left : List (List ℕ)) → map spell xs ++ (map spell ys ++ left) ≡ map spell (xs ++ ys) ++ left
 spell_append [] ys left = refl
@@ -43,7 +42,7 @@ length_append (x ∷ xs) ys = let l = length_append xs ys in omega arith
 pub passes_then : (run mid last : RunValue) (text rest end : List ℕ) (number at to : ℕ) → Passes run text number mid rest at → Passes mid rest at last end to → Passes run text number last end to
 passes_then run mid last text rest end number at to p q = record {
   lines = p.lines ++ q.lines;
-  formed = each_append p.lines q.lines p.formed q.formed;
+  formed = each_append IsWellFormed p.lines q.lines p.formed q.formed;
   text_is = p.text_is ∙ ap (λ (s : List (List ℕ) × List ℕ). (map spell p.lines ++ s.0, s.1)) q.text_is
       ∙ ap (λ (t : List (List ℕ)). (t, (split end).1)) (spell_append p.lines q.lines (split end).0);
   added = add_append run mid last p.lines q.lines p.added q.added;
@@ -206,7 +205,7 @@ is_countable text rest order body at p s =
     let all = passes_then nothing (order_view order) (run_view order body) text rest s.rest 2 at s.at p s.passed in
     let few = few_nothing (run_view order body) all.lines all.added in
     record {
-      assign = omega (arith, few.assign, map_long plain_rule body.assign.items);
+      assign = omega (arith, few.assign, length-map body.assign.items plain_rule);
       revoke = omega (arith, few.revoke);
       assignp = omega arith;
       revokep = omega arith;

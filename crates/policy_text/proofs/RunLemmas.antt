@@ -1,7 +1,8 @@
 -- Right lines keep the limits.
 use Rattle.std.proofs.Common.{ℕ, ◌<◌, ◌≤◌, List, [], ◌∷◌, ◌++◌, length, arith, sym, subst, zero, suc}
 use Rattle.role_order.specs.declared.TheConstants.{MOST_ROLES}
-use Rattle.policy_text.specs.declared.TheConstants.{MOST_EDGES, MOST_RULES, MOST_USERS, MOST_ACTS, MOST_GOALS}
+use Rattle.arbac_policy.specs.declared.TheConstants.{MOST_EDGES, MOST_RULES, MOST_GOALS}
+use Rattle.policy_text.specs.declared.TheConstants.{MOST_USERS, MOST_ACTS}
 use Rattle.policy_text.specs.LineForms.{LineForm, a_role, an_edge, an_assign, a_revoke, a_user, an_act, a_goal}
 use Rattle.policy_text.specs.Runs.{RunValue, nothing, Adds, AddAll, KeepsLimits, StandsFor}
 

@@ -1,5 +1,5 @@
 -- A line adds one thing, lines lead to one run, and numbers in it are roles.
-use Rattle.std.proofs.Common.{ℕ, ◌≡◌, ◌<◌, ◌+◌, Bool, true, false, cond, List, [], ◌∷◌, ◌++◌, length, refl, arith, sym, ◌∙◌, ap, subst, Some, None, map}
+use Rattle.std.proofs.Common.{ℕ, ◌≡◌, ◌<◌, Bool, true, false, cond, List, [], ◌∷◌, ◌++◌, length, refl, arith, sym, ◌∙◌, ap, subst, Some, None, map}
 use Rattle.std.specs.Prelude.{nat_lt}
 use Rattle.std.specs.List.{position_or_len}
 use Rattle.std.specs.Str.{bytes_eq}
@@ -14,11 +14,13 @@ use Rattle.arbac_policy.specs.Rules.{IsKnownRange, IsKnownAssign, IsKnownRevoke}
 use Rattle.cond_text.specs.Words.{words, placed_words}
 use Rattle.cond_text.proofs.CompleteLemmas.{one_term}
 use Rattle.cond_text.proofs.LimitLemmas.{fine_term}
-use Rattle.policy_text.specs.LineForms.{LineForm, NamedRange, a_role, an_edge, an_assign, a_revoke, a_user, an_act, a_goal}
-use Rattle.policy_text.specs.Runs.{AssignRule, RunValue, nothing, plain_rule, Names, NameEach, NamesRange, NamesSet, ReadsAs, set_of, Extends, Adds, AddAll, AreKnownGoals, StandsFor}
-
-same_some : {A : Type 0} (x y : A) → Some x ≡ Some y → x ≡ y
-same_some x y e = cc
+use Rattle.cond_text.specs.Ranges.{NamedRange}
+use Rattle.policy_text.specs.LineForms.{LineForm, a_role, an_edge, an_assign, a_revoke, a_user, an_act, a_goal}
+use Rattle.arbac_policy.specs.PlainRules.{AssignRule, plain_rule}
+use Rattle.cond_text.specs.Named.{Names, NameEach, NamesRange, NamesSet, ReadsAs, set_of}
+use Rattle.policy_text.specs.Runs.{RunValue, nothing, Extends, Adds, AddAll, AreKnownGoals, StandsFor}
+use Rattle.list_words.proofs.GetLemmas.{same_some}
+use Rattle.policy_text.proofs.StepLemmas.{zero_both}
 
 role_one : (names : List (List ℕ)) (name : List ℕ) (a b : ℕ) → Names names name a → Names names name b → a ≡ b
 role_one names name a b h k = same_some a b (sym h ∙ k)
@@ -100,9 +102,6 @@ each_none P (x ∷ xs) e = absurd (omega arith)
 
 range_known : (names : List (List ℕ)) (written : NamedRange) (range : Range) → NamesRange names written range → IsKnownRange (length names) range
 range_known names written range h = (place_within names written.low range.low h.low, place_within names written.high range.high h.high)
-
-zero_both : (a b : ℕ) → a + b ≡ 0 → (a ≡ 0) × (b ≡ 0)
-zero_both a b e = (omega arith, omega arith)
 
 cond_known : (names : List (List ℕ)) (text : List ℕ) (term : Term) → ReadsAs names text term → IsKnown (length names) term
 cond_known names text term h = (fine_term (length names) (placed_words names text) term h.0 h.1).0

@@ -3,14 +3,15 @@ use Rattle.std.proofs.Common.{ℕ, ◌≡◌, ◌≤◌, ◌+◌, inl, Bool, tru
 use Rattle.std.specs.Str.{bytes_eq}
 use Rattle.std.proofs.lemmas.Bool.{eq-eqb, eqb-true}
 use Rattle.std.proofs.lemmas.Slice.Eq.{bytes_eq-Decides}
-use Rattle.policy_text.proofs.WordLemmas.{and_left, and_right}
 use Rattle.std.specs.Prelude.{◌&&◌, not, codes, OnOk, IfErr, Result, Ok, Err}
 use Rattle.list_words.specs.Lists.{Each}
 use Rattle.role_order.specs.Refusals.{IsOrder}
 use Rattle.policy_text.specs.declared.run_error.RunError.{RunError}
 use Rattle.policy_text.specs.declared.run_error.RunError.TheVariants.{BadLine, UnknownRole, Order, Cond, TooMany, Unended, Memory}
-use Rattle.policy_text.specs.Lines.{split, cut, is_order_line}
-use Rattle.policy_text.specs.LineForms.{LineForm, a_role, an_edge, an_assign, a_revoke, a_user, an_act, a_goal, IsWellFormed, tells_order, condition_of, spell, spell_range}
+use Rattle.cond_text.specs.Cuts.{cut}
+use Rattle.policy_text.specs.Lines.{split, is_order_line}
+use Rattle.cond_text.specs.Ranges.{spell_range}
+use Rattle.policy_text.specs.LineForms.{LineForm, a_role, an_edge, an_assign, a_revoke, a_user, an_act, a_goal, IsWellFormed, tells_order, condition_of, spell}
 use Rattle.policy_text.specs.Spelling.{form_of}
 use Rattle.policy_text.specs.Runs.{RunValue, MayStand, Adds, AddAll, behind_edges}
 use Rattle.policy_text.specs.Faults.{IsPlaced, IsLineFault, IsPastOrder, EndsOrder}
@@ -18,6 +19,7 @@ use Rattle.policy_text.specs.Steps.{IsFormFault, AddsLine, Passes, StopsAt, Told
 use Rattle.policy_text.proofs.LineLemmas.{split_none, split_first, split_empty, nothing_left}
 use Rattle.policy_text.proofs.FormLemmas.{form_found}
 use Rattle.policy_text.proofs.SpellLemmas.{form_is}
+use Rattle.list_words.proofs.TestLemmas.{and_both}
 
 -- the first word of a line tells whether it is one of the role order
 pub order_line_is : (form : LineForm) → is_order_line (spell form) ≡ tells_order form
@@ -177,7 +179,7 @@ body_stop run mid text rest line later number at Memory p c past f = tt
 
 pub is_last : (line : List ℕ) (n : ℕ) → (bytes_eq line (codes "end") && not (eqb n 0)) ≡ true → (line ≡ codes "end") × (n ≡ 0 → ⊥)
 is_last line n e =
-    ((bytes_eq-Decides line (codes "end")).0 (and_left (bytes_eq line (codes "end")) _ e), λ z. none (eqb n 0) (eq-eqb n 0 z) (and_right (bytes_eq line (codes "end")) _ e))
+    ((bytes_eq-Decides line (codes "end")).0 ((and_both (bytes_eq line (codes "end")) _ e).0), λ z. none (eqb n 0) (eq-eqb n 0 z) ((and_both (bytes_eq line (codes "end")) _ e).1))
   where
     none : (t : Bool) → t ≡ true → not t ≡ true → ⊥
     none true a b = absurd (cc)
@@ -196,7 +198,8 @@ longer_by_one : {A : Type 0} (xs : List A) (x : A) (n : ℕ) → length (xs ++ x
 longer_by_one [] x n e = omega arith
 longer_by_one (y ∷ ys) x n e = omega arith
 
-zero_both : (a b : ℕ) → a + b ≡ 0 → (a ≡ 0) × (b ≡ 0)
+-- a sum that is 0 has parts that are
+pub zero_both : (a b : ℕ) → a + b ≡ 0 → (a ≡ 0) × (b ≡ 0)
 zero_both a b e = (omega arith, omega arith)
 
 -- behind a line that is none of the role order's, a later section has begun

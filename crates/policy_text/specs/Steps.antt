@@ -14,7 +14,8 @@ use Rattle.policy_text.specs.declared.run_error.RunError.{RunError}
 use Rattle.policy_text.specs.declared.run_error.RunError.TheVariants.{BadLine, UnknownRole, Order, Cond, TooMany, Unended, Memory}
 use Rattle.policy_text.specs.Lines.{split}
 use Rattle.policy_text.specs.LineForms.{LineForm, IsWellFormed, spell}
-use Rattle.policy_text.specs.Runs.{RunValue, nothing, plain_rule, MayStand, HasRoom, Adds, AddAll}
+use Rattle.arbac_policy.specs.PlainRules.{plain_rule}
+use Rattle.policy_text.specs.Runs.{RunValue, nothing, MayStand, HasRoom, Adds, AddAll}
 use Rattle.policy_text.specs.Faults.{HasUnknown, HasCondFault, IsLineFault, IsPastOrder}
 
 -- what the lines of the role order say

@@ -11,8 +11,8 @@ use Rattle.list_words.specs.Lists.{Each}
 use Rattle.role_order.specs.Names.{place_of}
 use Rattle.role_order.specs.Refusals.{IsOrder}
 use Rattle.arbac_policy.specs.Rules.{IsKnownPair}
-use Rattle.policy_text.specs.declared.TheConstants.{MOST_EDGES, MOST_RULES}
-use Rattle.policy_text.proofs.OrderLemmas.{place_found}
+use Rattle.arbac_policy.specs.declared.TheConstants.{MOST_EDGES, MOST_RULES}
+use Rattle.cond_text.proofs.OrderLemmas.{place_found}
 use Rattle.question_text.specs.declared.TheConstants.{MOST_PAIRS}
 use Rattle.question_text.specs.Outcomes.{Outcome}
 use Rattle.question_text.specs.Values.{QuestionValue}

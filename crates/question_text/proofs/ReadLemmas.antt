@@ -4,7 +4,7 @@ use Rattle.std.proofs.lemmas.List.{length-map}
 use Rattle.std.specs.Prelude.{Bool, IfOk, IfErr, ◌⊎◌}
 use Rattle.toml.specs.Data.{Members}
 use Rattle.arbac_policy.specs.Rules.{IsPolicy, AreCountable, policy_of}
-use Rattle.policy_text.specs.Runs.{plain_rule}
+use Rattle.arbac_policy.specs.PlainRules.{plain_rule}
 use Rattle.question_text.specs.declared.reading.Roles.{Roles}
 use Rattle.question_text.specs.declared.reading.Rules.{Rules}
 use Rattle.question_text.specs.declared.question.Question.{Question}

@@ -3,8 +3,8 @@ use Rattle.std.proofs.Common.{ℕ, ◌≡◌, Bool, true, false, List, [], ◌�
 use Rattle.std.specs.Prelude.{codes, IfOk}
 use Rattle.toml.specs.Data.{Data, Members}
 use Rattle.role_order.specs.Roles.{with_role}
-use Rattle.policy_text.specs.declared.TheConstants.{MOST_EDGES}
-use Rattle.policy_text.specs.Runs.{set_of}
+use Rattle.arbac_policy.specs.declared.TheConstants.{MOST_EDGES}
+use Rattle.cond_text.specs.Named.{set_of}
 use Rattle.question_text.specs.declared.question_error.QuestionError.{QuestionError}
 use Rattle.question_text.specs.Outcomes.{Fault, Outcome, gives, ◌>>=◌}
 use Rattle.question_text.specs.Keys.{as_list, required, optional, at_most, entries}
@@ -12,14 +12,11 @@ use Rattle.question_text.specs.Roles.{a_text, is_order, an_edge, role_names, not
 use Rattle.question_text.specs.Answers.{fault_of, IsToldBy, Answers}
 use Rattle.question_text.proofs.KeyLemmas.{few_enough}
 use Rattle.question_text.proofs.OutcomeLemmas.{passes, goes_on, tells_on}
-
-fold_more : (start : List ℕ) (roles : List ℕ) (role : ℕ) → fold with_role start (roles ++ role ∷ []) ≡ with_role (fold with_role start roles) role
-fold_more start [] role = refl
-fold_more start (r ∷ rs) role = fold_more (with_role start r) rs role
+use Rattle.std.proofs.lemmas.List.Sums.{fold-append}
 
 -- the set with one role more
 pub set_more : (set next roles : List ℕ) (role : ℕ) → set ≡ set_of roles → next ≡ with_role set role → next ≡ set_of (roles ++ role ∷ [])
-set_more set next roles role is more = more ∙ ap (λ (s : List ℕ). with_role s role) is ∙ sym (fold_more [] roles role)
+set_more set next roles role is more = more ∙ ap (λ (s : List ℕ). with_role s role) is ∙ sym (fold-append with_role [] roles (role ∷ []))
 
 -- the names were read: the order speaks
 pub order_speaks : {A : Type 0} (names_of : A → List (List ℕ)) (table : Members) (list : List Data) (names : List (List ℕ)) (result : Result A QuestionError)

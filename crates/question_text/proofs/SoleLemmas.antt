@@ -1,27 +1,26 @@
 -- A document comes to one question or to one fault.
-use Rattle.std.proofs.Common.{ℕ, ◌≡◌, ◌*◌, Bool, true, false, List, [], ◌∷◌, Option, Some, None, Ok, Err, sym, ap, ◌∙◌, inl, inr}
+use Rattle.std.proofs.Common.{ℕ, ◌≡◌, Bool, true, false, List, [], ◌∷◌, Option, Some, None, Ok, Err, sym, ap, ◌∙◌, inl, inr}
 use Rattle.std.specs.Prelude.{codes, position, length}
 use Rattle.toml.specs.Data.{Data, Members, get_member, as_str, as_bool, as_table}
 use Rattle.role_order.specs.declared.order.OrderError.{OrderError}
 use Rattle.role_order.specs.Names.{place_of}
 use Rattle.arbac_policy.specs.Truth.{Term}
-use Rattle.arbac_rules.specs.Widths.{width}
+use Rattle.arbac_rules.specs.Widths.{width, too_many}
 use Rattle.cond_text.specs.declared.cond_error.CondError.{CondError}
 use Rattle.cond_text.specs.Words.{words, placed_words}
 use Rattle.cond_text.proofs.CompleteLemmas.{one_term}
 use Rattle.cond_text.proofs.FaultLemmas.{one_fault}
 use Rattle.cond_text.proofs.JudgeLemmas.{clash}
-use Rattle.policy_text.specs.LineForms.{NamedRange, IsNamedRange, spell_range}
-use Rattle.policy_text.specs.Runs.{AssignRule}
-use Rattle.policy_text.specs.Spelling.{range_in}
-use Rattle.policy_text.specs.declared.TheConstants.{MOST_EDGES, MOST_RULES, MOST_GOALS}
-use Rattle.policy_text.proofs.FormLemmas.{range_found}
-use Rattle.policy_text.proofs.OrderLemmas.{order_clash, refusal_one}
+use Rattle.cond_text.specs.Ranges.{NamedRange, IsNamedRange, spell_range, range_in}
+use Rattle.arbac_policy.specs.PlainRules.{AssignRule}
+use Rattle.arbac_policy.specs.declared.TheConstants.{MOST_EDGES, MOST_RULES, MOST_GOALS}
+use Rattle.cond_text.proofs.RangeLemmas.{range_found}
+use Rattle.cond_text.proofs.OrderLemmas.{order_clash, refusal_one}
 use Rattle.question_text.specs.declared.TheConstants.{MOST_PAIRS, MOST_PROFILES}
 use Rattle.question_text.specs.Outcomes.{no_order, no_cond, Outcome}
 use Rattle.question_text.specs.Keys.{toml_of, as_list, as_two_texts, as_two_different_texts, as_version, as_most, as_filled_list, must_be, required, may_be, optional, of_kind, unless_unknown, first_unknown, knows_only, at_most, entries, key_of}
 use Rattle.question_text.specs.Roles.{a_text, found, role_named, a_role, role_set, is_order, role_names, admin_list, admin_roles, both_roles, an_edge, a_pair, is_mixed, unless_mixed, not_mixed, listed_roles, role_edges, exclusive_pairs}
-use Rattle.question_text.specs.Tables.{a_condition, a_named_range, a_range, the_admin, the_condition, the_range, not_mixed_rule, not_wide, assign_parts, assign_tests, an_assign_rule, revoke_parts, a_revoke_rule, tables, assign_rules, revoke_rules, a_profile, profiles, a_goal_condition, not_wide_goal, a_goal, may_be_goal, the_goal}
+use Rattle.question_text.specs.Tables.{a_condition, a_named_range, a_range, the_admin, the_condition, the_range, not_mixed_rule, not_wide, assign_parts, assign_tests, an_assign_rule, revoke_parts, a_revoke_rule, tables, assign_rules, revoke_rules, a_profile, profiles, a_goal_condition, unless_wide, not_wide_goal, a_goal, may_be_goal, the_goal}
 use Rattle.question_text.specs.Documents.{known_keys, HeadValue, the_head, the_roles, the_rules, question, if_toml, document}
 use Rattle.question_text.proofs.OutcomeLemmas.{Sole, sole_gives, sole_fails, sole_fails_if, sole_chain, sole_entries, sole_of_kind}
 
@@ -210,17 +209,16 @@ sole_profile names path d =
 sole_goal_condition : (names : List (List ℕ)) (path : List ℕ) (d : Data) → Sole (a_goal_condition names path d)
 sole_goal_condition names path d = sole_chain (of_kind (as_str d) path) (a_condition names path) (sole_of_kind (as_str d) path) (sole_a_condition names path)
 
-sole_not_wide_goal : (combinations : ℕ) (conds : List Term) → Sole (not_wide_goal combinations conds)
-sole_not_wide_goal combinations [] = sole_gives tt
-sole_not_wide_goal combinations (cond ∷ conds) =
-    sole_chain _ (λ narrow. not_wide_goal (combinations * width cond) conds) (sole_fails_if _ _) (λ narrow. sole_not_wide_goal (combinations * width cond) conds)
+sole_unless_wide : (count : Option ℕ) → Sole (unless_wide count)
+sole_unless_wide None = sole_gives tt
+sole_unless_wide (Some count) = sole_fails _
 
 sole_a_goal : (names : List (List ℕ)) (d : Data) → Sole (a_goal names d)
 sole_a_goal names d =
     sole_chain (of_kind (as_filled_list d) (codes "goal")) _ (sole_of_kind (as_filled_list d) (codes "goal"))
     (λ list. sole_chain (at_most MOST_GOALS (codes "goal") list) _ (sole_at_most MOST_GOALS (codes "goal") list)
     (λ few. sole_chain (entries (a_goal_condition names) (codes "goal") list) _ (sole_entries (a_goal_condition names) (codes "goal") list (sole_goal_condition names))
-    (λ conds. sole_chain (not_wide_goal 1 conds) _ (sole_not_wide_goal 1 conds) (λ narrow. sole_gives conds))))
+    (λ conds. sole_chain (not_wide_goal conds) _ (sole_unless_wide (too_many conds)) (λ narrow. sole_gives conds))))
 
 sole_may_be_goal : (need_goal : Bool) (names : List (List ℕ)) (d : Option Data) → Sole (may_be_goal need_goal names d)
 sole_may_be_goal true names None = sole_fails _

@@ -6,7 +6,6 @@ use Rattle.std.specs.Option.{option_and_then}
 use Rattle.std.specs.List.{position_or_len}
 use Rattle.std.specs.Str.{bytes_eq}
 use Rattle.std.proofs.lemmas.Bool.Decides.{nat_tests}
-use Rattle.std.proofs.Math.Nat.{mul_assoc}
 use Rattle.std.proofs.lemmas.List.{length-map}
 use Rattle.toml.specs.Data.{Data, Members, as_str, get_member}
 use Rattle.role_order.specs.declared.range.Range.{Range}
@@ -26,18 +25,20 @@ use Rattle.cond_text.specs.Words.{placed_words}
 use Rattle.cond_text.proofs.LimitLemmas.{fine_term}
 use Rattle.arbac_policy.specs.declared.rule.CanRevoke.{CanRevoke}
 use Rattle.arbac_rules.specs.declared.TheConstants.{MOST_CONJUNCTS}
-use Rattle.arbac_rules.specs.Widths.{width}
-use Rattle.policy_text.specs.declared.TheConstants.{MOST_RULES, MOST_GOALS}
-use Rattle.policy_text.specs.Runs.{AssignRule, plain_rule, set_of}
+use Rattle.arbac_rules.specs.Widths.{width, goal_width, too_many}
+use Rattle.arbac_policy.specs.declared.TheConstants.{MOST_RULES, MOST_GOALS}
+use Rattle.arbac_policy.specs.PlainRules.{AssignRule, plain_rule}
+use Rattle.cond_text.specs.Named.{set_of}
 use Rattle.question_text.specs.declared.question_error.QuestionError.{QuestionError}
 use Rattle.question_text.specs.Answers.{Answers}
 use Rattle.question_text.specs.Outcomes.{Fault, no_cond, Outcome, fails_if, in_turn}
 use Rattle.question_text.specs.declared.TheConstants.{MOST_PROFILES, MOST_OF_PROFILE}
 use Rattle.question_text.specs.Keys.{entries, entry_of, of_kind, as_count, as_most, if_any, if_few, or_any, may_be, key_of}
 use Rattle.question_text.specs.Roles.{found, role_named, a_role, role_set}
-use Rattle.question_text.specs.Rules.{IsSet, IsCondition, IsAssignRule, IsRevokeRule, IsMost, IsProfile, combinations}
-use Rattle.question_text.specs.Tables.{a_condition, a_range, the_admin, the_condition, the_range, is_mixed_rule, names_admin, assign_parts, assign_tests, revoke_parts, an_assign_rule, a_revoke_rule, tables, assign_rules, revoke_rules, a_profile, profiles, a_goal_condition, not_wide_goal, a_goal, may_be_goal, the_goal}
+use Rattle.question_text.specs.Rules.{IsSet, IsCondition, IsAssignRule, IsRevokeRule, IsMost, IsProfile}
+use Rattle.question_text.specs.Tables.{a_condition, a_range, the_admin, the_condition, the_range, is_mixed_rule, names_admin, assign_parts, assign_tests, revoke_parts, an_assign_rule, a_revoke_rule, tables, assign_rules, revoke_rules, a_profile, profiles, a_goal_condition, unless_wide, not_wide_goal, a_goal, may_be_goal, the_goal}
 use Rattle.question_text.proofs.OutcomeLemmas.{same_ok, no_ok_err}
+use Rattle.arbac_rules.proofs.GoalWidthLemmas.{few_combinations}
 
 -- conditions
 
@@ -314,19 +315,19 @@ pub conditions_few : (names : List (List ℕ)) (list : List Data) (conds : List 
 conditions_few names list conds h =
     few_each (length names) conds (entries_kept (IsCondition (length names)) (a_goal_condition names) (λ path d term k. goal_condition_kept names path d term k) (codes "goal") list (map term_of conds) h).0
 
--- behind so many combinations those of all conditions are not too many
-narrow_kept : (n : ℕ) (conds : List Term) → n ≤ MOST_CONJUNCTS → not_wide_goal n conds (Ok tt) → n * combinations conds ≤ MOST_CONJUNCTS
-narrow_kept n [] few h = omega arith
-narrow_kept n (cond ∷ conds) few (inl (fault, h, e)) = absurd (no_ok_err tt fault e)
-narrow_kept n (cond ∷ conds) few (inr (done, h, k)) =
-    let here = within MOST_CONJUNCTS (n * width cond) (passed (nat_lt MOST_CONJUNCTS (n * width cond)) _ h) in
-    subst (λ (m : ℕ). m ≤ MOST_CONJUNCTS) (mul_assoc n (width cond) (combinations conds)) (narrow_kept (n * width cond) conds here k)
+never_wide : (count : Option ℕ) → unless_wide count (Ok tt) → count ≡ None
+never_wide None h = refl
+never_wide (Some count) h = absurd (no_ok_err tt _ h)
+
+-- where no count was told, the combinations of all conditions are not too many
+narrow_kept : (conds : List Term) → not_wide_goal conds (Ok tt) → goal_width conds ≤ MOST_CONJUNCTS
+narrow_kept conds h = let few = few_combinations 1 conds (omega arith) (never_wide (too_many conds) h) in omega (few, arith)
 
 -- a goal that was read has few conditions, each known and of few terms, and few combinations
 pub record IsGoal (count : ℕ) (goal : List Term) : Type 0 where
   pub few : length goal ≤ MOST_GOALS
   pub conditions : Each (IsCondition count) goal
-  pub narrow : combinations goal ≤ MOST_CONJUNCTS
+  pub narrow : goal_width goal ≤ MOST_CONJUNCTS
 
 there_kept : (names : List (List ℕ)) (d : Data) (goal : List Term) → a_goal names d (Ok goal) → IsGoal (length names) goal
 there_kept names d goal (inl (fault, h, e)) = absurd (no_ok_err goal fault e)
@@ -336,7 +337,7 @@ there_kept names d goal (inr (list, l, inr (done, f, inr (conds, k, inl (fault, 
 there_kept names d goal (inr (list, l, inr (done, f, inr (conds, k, inr (over, n, e))))) =
     let kept = entries_kept (IsCondition (length names)) (a_goal_condition names) (λ path x term c. goal_condition_kept names path x term c) (codes "goal") list conds k in
     let room : length list ≤ MOST_GOALS = within MOST_GOALS (length list) (passed (nat_lt MOST_GOALS (length list)) _ f) in
-    let narrow = narrow_kept 1 conds (omega arith) n in
+    let narrow = narrow_kept conds n in
     let all : IsGoal (length names) conds = record { few = omega (arith, kept.1, room); conditions = kept.0; narrow = omega (arith, narrow) } in
     subst (IsGoal (length names)) (same_ok conds goal (sym e)) all
 

@@ -4,7 +4,7 @@ use Rattle.toml.specs.Data.{Members, as_bool}
 use Rattle.arbac_policy.specs.declared.rule.CanRevoke.{CanRevoke}
 use Rattle.arbac_policy.specs.declared.profile.Profile.{Profile}
 use Rattle.arbac_policy.specs.Truth.{Term}
-use Rattle.policy_text.specs.Runs.{AssignRule}
+use Rattle.arbac_policy.specs.PlainRules.{AssignRule}
 use Rattle.question_text.specs.Outcomes.{not_toml, Outcome, gives, fails, ◌>>=◌}
 use Rattle.question_text.specs.Values.{QuestionValue}
 use Rattle.question_text.specs.Keys.{toml_of, as_version, required, knows_only}

@@ -10,12 +10,12 @@ use Rattle.question_text.specs.Outcomes.{wrong_kind, missing, unknown_key, too_m
 
 -- the path of the entry at a place of a list
 abbrev pub entry_of : List ℕ → ℕ → List ℕ
-entry_of path place = path ++ (46 ∷ decimal place)
+entry_of path place = path ++ (codes "." ++ decimal place)
 
 -- the path of a key of a table; before the document's own keys stands none
 abbrev pub key_of : List ℕ → List ℕ → List ℕ
 key_of [] key = key
-key_of (b ∷ path) key = (b ∷ path) ++ (46 ∷ key)
+key_of (b ∷ path) key = (b ∷ path) ++ (codes "." ++ key)
 
 -- the table that the bytes are as TOML
 abbrev pub toml_of : List ℕ → Option Members

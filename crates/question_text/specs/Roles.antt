@@ -6,8 +6,8 @@ use Rattle.role_order.specs.declared.order.OrderError.TheVariants.{Memory}
 use Rattle.role_order.specs.Names.{place_of}
 use Rattle.role_order.specs.Roles.{has_role}
 use Rattle.role_order.specs.Refusals.{IsOrder, IsRefused}
-use Rattle.policy_text.specs.declared.TheConstants.{MOST_EDGES}
-use Rattle.policy_text.specs.Runs.{set_of}
+use Rattle.arbac_policy.specs.declared.TheConstants.{MOST_EDGES}
+use Rattle.cond_text.specs.Named.{set_of}
 use Rattle.question_text.specs.declared.TheConstants.{MOST_PAIRS}
 use Rattle.question_text.specs.Outcomes.{wrong_kind, unknown_role, no_order, mixed_role, Outcome, gives, fails, fails_if, ◌>>=◌}
 use Rattle.question_text.specs.Keys.{as_list, as_two_texts, as_two_different_texts, of_kind, required, optional, at_most, entries, entry_of}
@@ -65,17 +65,18 @@ both_roles names path texts = do
   second ← role_named names path texts.1
   gives (first, second)
 
+abbrev pub roles_in : List (List ℕ) → List ℕ → Option (List ℕ × List ℕ) → Outcome (ℕ × ℕ)
+roles_in names path found = do
+  texts ← of_kind found path
+  both_roles names path texts
+
 -- an edge: the names of the senior role and of the junior one
 abbrev pub an_edge : List (List ℕ) → List ℕ → Data → Outcome (ℕ × ℕ)
-an_edge names path d = do
-  texts ← of_kind (as_two_texts d) path
-  both_roles names path texts
+an_edge names path d = roles_in names path (as_two_texts d)
 
 -- a pair: the names of two different roles
 abbrev pub a_pair : List (List ℕ) → List ℕ → Data → Outcome (ℕ × ℕ)
-a_pair names path d = do
-  texts ← of_kind (as_two_different_texts d) path
-  both_roles names path texts
+a_pair names path d = roles_in names path (as_two_different_texts d)
 
 -- one role is administrative, and the other isn't
 abbrev pub is_mixed : List ℕ → ℕ × ℕ → Bool

@@ -9,10 +9,10 @@ use Rattle.arbac_policy.specs.Truth.{Term, IsKnown}
 use Rattle.arbac_policy.specs.Rules.{IsKnownRange, IsKnownPair}
 use Rattle.cond_text.specs.declared.TheConstants.{MOST_TERMS}
 use Rattle.cond_text.specs.Grammar.{term_count}
-use Rattle.policy_text.specs.declared.TheConstants.{MOST_EDGES, MOST_RULES, MOST_GOALS}
-use Rattle.policy_text.specs.Runs.{AssignRule}
+use Rattle.arbac_policy.specs.declared.TheConstants.{MOST_EDGES, MOST_RULES, MOST_GOALS}
+use Rattle.arbac_policy.specs.PlainRules.{AssignRule}
 use Rattle.arbac_rules.specs.declared.TheConstants.{MOST_CONJUNCTS}
-use Rattle.arbac_rules.specs.Widths.{width}
+use Rattle.arbac_rules.specs.Widths.{width, goal_width}
 use Rattle.question_text.specs.declared.TheConstants.{MOST_PAIRS, MOST_PROFILES, MOST_OF_PROFILE}
 use Rattle.question_text.specs.Values.{QuestionValue}
 use Rattle.question_text.specs.Roles.{is_mixed}
@@ -51,11 +51,6 @@ pub record IsProfile (count : ℕ) (profile : Profile) : Type 0 where
   pub set : IsSet count profile.set
   pub most : IsMost profile.most
 
--- how many combinations there are of one conjunct of each condition
-abbrev pub combinations : List Term → ℕ
-combinations [] = 1
-combinations (cond ∷ conds) = width cond * combinations conds
-
 -- administrative roles stand with administrative ones alone, and administer rules for others
 pub record AreApart (q : QuestionValue) : Type 0 where
   pub edges : Each (λ edge. is_mixed q.admin_roles edge ≡ false) q.edges
@@ -77,5 +72,5 @@ pub record KeepsRules (q : QuestionValue) : Type 0 where
   pub revokep : (length q.revokep ≤ MOST_RULES) × Each (IsRevokeRule (length q.names)) q.revokep
   pub profiles : (length q.profiles ≤ MOST_PROFILES) × Each (IsProfile (length q.names)) q.profiles
   pub goal : (length q.goal ≤ MOST_GOALS) × Each (IsCondition (length q.names)) q.goal
-  pub narrow : combinations q.goal ≤ MOST_CONJUNCTS
+  pub narrow : goal_width q.goal ≤ MOST_CONJUNCTS
   pub apart : q.separate ≡ true → AreApart q

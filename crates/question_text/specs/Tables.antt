@@ -1,5 +1,5 @@
 -- The tables of a document: administrative rules and profiles, and its goal.
-use Rattle.std.specs.Prelude.{ℕ, ◌≡◌, ◌*◌, Bool, true, false, not, ◌||◌, ◌&&◌, nat_lt, List, [], ◌∷◌, Option, Some, None, codes, Ok, Err, ◌⊎◌}
+use Rattle.std.specs.Prelude.{ℕ, ◌≡◌, Bool, true, false, not, ◌||◌, ◌&&◌, nat_lt, List, [], ◌∷◌, Option, Some, None, codes, Ok, Err, ◌⊎◌}
 use Rattle.toml.specs.Data.{Data, Members, get_member, as_str, as_table}
 use Rattle.role_order.specs.declared.range.Range.{Range}
 use Rattle.role_order.specs.Roles.{has_role}
@@ -8,11 +8,12 @@ use Rattle.arbac_policy.specs.declared.profile.Profile.{Profile}
 use Rattle.arbac_policy.specs.Truth.{Term, any, has, lacks, both, either}
 use Rattle.cond_text.specs.declared.cond_error.CondError.{CondError}
 use Rattle.cond_text.specs.Reading.{IsFirstOf}
-use Rattle.policy_text.specs.declared.TheConstants.{MOST_RULES, MOST_GOALS}
-use Rattle.policy_text.specs.LineForms.{NamedRange, IsNamedRange, spell_range}
-use Rattle.policy_text.specs.Runs.{AssignRule, ReadsAs}
+use Rattle.arbac_policy.specs.declared.TheConstants.{MOST_RULES, MOST_GOALS}
+use Rattle.cond_text.specs.Ranges.{NamedRange, IsNamedRange, spell_range}
+use Rattle.arbac_policy.specs.PlainRules.{AssignRule}
+use Rattle.cond_text.specs.Named.{ReadsAs}
 use Rattle.arbac_rules.specs.declared.TheConstants.{MOST_CONJUNCTS}
-use Rattle.arbac_rules.specs.Widths.{width}
+use Rattle.arbac_rules.specs.Widths.{width, too_many}
 use Rattle.question_text.specs.declared.TheConstants.{MOST_PROFILES}
 use Rattle.question_text.specs.Outcomes.{missing, wrong_kind, no_cond, mixed_role, too_wide, Outcome, gives, fails, fails_if, ◌>>=◌}
 use Rattle.question_text.specs.Keys.{as_list, as_filled_list, as_most, of_kind, required, optional, knows_only, at_most, entries, key_of}
@@ -150,13 +151,13 @@ a_goal_condition names path d = do
   text ← of_kind (as_str d) path
   a_condition names path text
 
--- of so many combinations, those with one conjunct of each condition are not too many;
--- the count that is told goes up to the first condition at which they are
-abbrev pub not_wide_goal : ℕ → List Term → Outcome (Unit {0})
-not_wide_goal combinations [] = gives tt
-not_wide_goal combinations (cond ∷ conds) = do
-  narrow ← fails_if (nat_lt MOST_CONJUNCTS (combinations * width cond)) (too_wide (codes "goal") (combinations * width cond))
-  not_wide_goal (combinations * width cond) conds
+abbrev pub unless_wide : Option ℕ → Outcome (Unit {0})
+unless_wide None = gives tt
+unless_wide (Some count) = fails (too_wide (codes "goal") count)
+
+-- there aren't too many combinations of one conjunct of each condition
+abbrev pub not_wide_goal : List Term → Outcome (Unit {0})
+not_wide_goal goal = unless_wide (too_many goal)
 
 -- the conditions of a goal that is there
 abbrev pub a_goal : List (List ℕ) → Data → Outcome (List Term)
@@ -164,7 +165,7 @@ a_goal names d = do
   list ← of_kind (as_filled_list d) (codes "goal")
   few ← at_most MOST_GOALS (codes "goal") list
   conds ← entries (a_goal_condition names) (codes "goal") list
-  narrow ← not_wide_goal 1 conds
+  narrow ← not_wide_goal conds
   gives conds
 
 abbrev pub may_be_goal : Bool → List (List ℕ) → Option Data → Outcome (List Term)

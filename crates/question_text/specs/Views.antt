@@ -5,7 +5,7 @@ use Rattle.toml.specs.Data.{Data}
 use Rattle.toml.specs.View.{array_view}
 use Rattle.toml.specs.declared.value.Value.{Value}
 use Rattle.std.specs.declared.alloc.Global.{Global}
-use Rattle.policy_text.specs.Runs.{plain_rule}
+use Rattle.arbac_policy.specs.PlainRules.{plain_rule}
 use Rattle.question_text.specs.declared.reading.Head.{Head}
 use Rattle.question_text.specs.declared.reading.Roles.{Roles}
 use Rattle.question_text.specs.declared.reading.Rules.{Rules}

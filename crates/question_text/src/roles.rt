@@ -6,7 +6,7 @@ ghost use Rattle.role_order.specs.Names.{texts};
 ghost use Rattle.role_order.specs.Refusals.{IsOrder};
 ghost use Rattle.question_text.specs.Keys.{entries, list_of, as_two_different_texts};
 ghost use Rattle.question_text.specs.declared.TheConstants.{MOST_PAIRS};
-ghost use Rattle.question_text.specs.Roles.{a_text, a_role, an_edge, a_pair, is_order, listed_roles};
+ghost use Rattle.question_text.specs.Roles.{a_text, a_role, an_edge, a_pair, is_order, roles_in, listed_roles};
 ghost use Rattle.question_text.specs.Roles.{role_named as named, role_set as set_of, role_names as names_of, admin_list as admins_list, admin_roles as admins_of};
 ghost use Rattle.question_text.specs.Roles.{both_roles as both, is_mixed as mixed, not_mixed as apart, role_edges as edges_of, exclusive_pairs as exclusive_of};
 ghost use Rattle.question_text.specs.Answers.{Answers};
@@ -18,7 +18,7 @@ use crate::keys::{
     at_most, entry_path, of_kind, optional_list, required_list, two_texts, value_at,
 };
 use crate::question_error::QuestionError;
-use policy_text::MOST_EDGES;
+use arbac_policy::MOST_EDGES;
 use role_order::{MOST_ROLES, Order, OrderError, RoleSet};
 use std::alloc::{AllocError, Global};
 use toml::value::Array;
@@ -176,19 +176,6 @@ fn both_roles(
     Ok((first, second))
 }
 
-/// The edge of the senior role and the junior one that the list at the path names.
-fn edge_of(
-    alloc: Global,
-    order: &Order,
-    path: &str,
-    value: &Value,
-) -> Result<(u16, u16), QuestionError>
-    ensures { Answers (λ edge. edge) (an_edge order.now.names path.now (view value.now)) result }
-{
-    let texts = of_kind(alloc, two_texts(value), path)?;
-    both_roles(alloc, order, path, texts)
-}
-
 /// The texts of a list of exactly two that differ.
 fn different_texts(value: &Value) -> Option<(&str, &str)>
     ensures { option_map (λ texts. (texts.0.now, texts.1.now)) result ≡ as_two_different_texts (view value.now) }
@@ -199,16 +186,16 @@ fn different_texts(value: &Value) -> Option<(&str, &str)>
     }
 }
 
-/// The pair of the two roles that the list at the path names.
-fn pair_of(
+/// The roles that two texts name, if there are two of the kind that is wanted.
+fn roles_of(
     alloc: Global,
     order: &Order,
     path: &str,
-    value: &Value,
+    texts: Option<(&str, &str)>,
 ) -> Result<(u16, u16), QuestionError>
-    ensures { Answers (λ pair. pair) (a_pair order.now.names path.now (view value.now)) result }
+    ensures { Answers (λ roles. roles) (roles_in order.now.names path.now (option_map (λ texts. (texts.0.now, texts.1.now)) texts.entry)) result }
 {
-    let texts = of_kind(alloc, different_texts(value), path)?;
+    let texts = of_kind(alloc, texts, path)?;
     both_roles(alloc, order, path, texts)
 }
 
@@ -224,7 +211,7 @@ impl<'o> ReadEntry for EdgeReader<'o> {
     ghost reads = { λ by path d. an_edge by.order.now.names path d };
 
     fn read(&self, alloc: Global, path: &str, value: &Value) -> Result<(u16, u16), QuestionError> {
-        edge_of(alloc, self.order, path, value)
+        roles_of(alloc, self.order, path, two_texts(value))
     }
 }
 
@@ -240,7 +227,7 @@ impl<'o> ReadEntry for PairReader<'o> {
     ghost reads = { λ by path d. a_pair by.order.now.names path d };
 
     fn read(&self, alloc: Global, path: &str, value: &Value) -> Result<(u16, u16), QuestionError> {
-        pair_of(alloc, self.order, path, value)
+        roles_of(alloc, self.order, path, different_texts(value))
     }
 }
 
@@ -281,23 +268,25 @@ fn not_mixed(
     }
 }
 
-/// The edges that a document lists; they may have a cycle.
-fn edges_listed(
+/// The pairs of roles that the list under the key says, each read alike.
+fn roles_listed<R: ReadEntry<Entry = (u16, u16)>>(
     alloc: Global,
-    order: &Order,
+    reader: &R,
+    most: usize,
     separate: bool,
     admins: &RoleSet,
+    key: &str,
     table: &Table,
 ) -> Result<Vec<(u16, u16)>, QuestionError>
-    ensures { Answers (λ edges. edges.items) (listed_roles MOST_EDGES (an_edge order.now.names) separate admins.now (codes "edges") (table_view table.now)) result }
+    ensures { Answers (λ roles. roles.items) (listed_roles most (R.reads reader.now) separate admins.now key.now (table_view table.now)) result }
 {
-    let Some(list) = optional_list(alloc, table, "", "edges")? else {
+    let Some(list) = optional_list(alloc, table, "", key)? else {
         return Ok(Vec::new(alloc));
     };
-    at_most(alloc, MOST_EDGES, "edges", list)?;
-    let edges = each_entry(alloc, &EdgeReader { order }, "edges", list)?;
-    not_mixed(alloc, separate, admins, "edges", edges.as_slice())?;
-    Ok(edges)
+    at_most(alloc, most, key, list)?;
+    let roles = each_entry(alloc, reader, key, list)?;
+    not_mixed(alloc, separate, admins, key, roles.as_slice())?;
+    Ok(roles)
 }
 
 /// The names of the order, in strings of their own.
@@ -322,28 +311,10 @@ pub fn role_edges(
     ensures edges { Answers (λ next. next.edges) (edges_of separate admins.now order.now.names (table_view table.now)) result }
     ensures names { IfOk result (λ next. next.names ≡ order.now.names) }
 {
-    let edges = edges_listed(alloc, order, separate, admins, table)?;
+    let reader = EdgeReader { order };
+    let edges = roles_listed(alloc, &reader, MOST_EDGES, separate, admins, "edges", table)?;
     let names = copied_names(alloc, order)?;
     order_of(alloc, names, edges)
-}
-
-/// The exclusive pairs that a document lists.
-fn pairs_listed(
-    alloc: Global,
-    order: &Order,
-    separate: bool,
-    admins: &RoleSet,
-    table: &Table,
-) -> Result<Vec<(u16, u16)>, QuestionError>
-    ensures { Answers (λ pairs. pairs.items) (listed_roles MOST_PAIRS (a_pair order.now.names) separate admins.now (codes "exclusive") (table_view table.now)) result }
-{
-    let Some(list) = optional_list(alloc, table, "", "exclusive")? else {
-        return Ok(Vec::new(alloc));
-    };
-    at_most(alloc, MOST_PAIRS, "exclusive", list)?;
-    let pairs = each_entry(alloc, &PairReader { order }, "exclusive", list)?;
-    not_mixed(alloc, separate, admins, "exclusive", pairs.as_slice())?;
-    Ok(pairs)
 }
 
 /// The exclusive pairs of a document; a document of the first version has none.
@@ -362,5 +333,14 @@ pub fn exclusive_pairs(
             key: String::from_str(alloc, "exclusive")?,
         });
     }
-    pairs_listed(alloc, order, separate, admins, table)
+    let reader = PairReader { order };
+    roles_listed(
+        alloc,
+        &reader,
+        MOST_PAIRS,
+        separate,
+        admins,
+        "exclusive",
+        table,
+    )
 }

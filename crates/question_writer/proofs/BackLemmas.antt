@@ -12,20 +12,21 @@ use Rattle.arbac_policy.specs.declared.rule.CanRevoke.{CanRevoke}
 use Rattle.arbac_policy.specs.declared.profile.Profile.{Profile}
 use Rattle.arbac_policy.specs.Truth.{Term}
 use Rattle.arbac_policy.specs.Rules.{IsKnownRange}
-use Rattle.arbac_rules.specs.Widths.{width}
+use Rattle.arbac_rules.specs.Widths.{width, goal_width}
 use Rattle.arbac_rules.specs.declared.TheConstants.{MOST_CONJUNCTS}
 use Rattle.cond_text.specs.Printing.{text_of}
 use Rattle.cond_text.proofs.PrintLemmas.{stands_of, back_of}
-use Rattle.policy_text.specs.declared.TheConstants.{MOST_RULES, MOST_GOALS}
-use Rattle.policy_text.specs.LineForms.{spell_range}
-use Rattle.policy_text.specs.Runs.{AssignRule, ReadsAs}
+use Rattle.arbac_policy.specs.declared.TheConstants.{MOST_RULES, MOST_GOALS}
+use Rattle.cond_text.specs.Ranges.{spell_range}
+use Rattle.arbac_policy.specs.PlainRules.{AssignRule}
+use Rattle.cond_text.specs.Named.{ReadsAs}
 use Rattle.toml.specs.Data.{Data, integer, Members, get_member}
 use Rattle.toml.specs.Tables.{at_key, along_dots}
 use Rattle.question_text.specs.declared.TheConstants.{MOST_PROFILES, MOST_OF_PROFILE}
 use Rattle.question_text.specs.Outcomes.{mixed_role, too_wide, Outcome}
 use Rattle.question_text.specs.Keys.{key_of, optional, as_list, as_version, as_most}
 use Rattle.question_text.specs.Tables.{tables, a_condition, a_range, is_mixed_rule, names_admin, an_assign_rule, a_revoke_rule, assign_rules, revoke_rules, a_profile, profiles, a_goal_condition, a_goal, the_goal}
-use Rattle.question_text.specs.Rules.{IsCondition, IsAssignRule, IsRevokeRule, IsMost, IsProfile, combinations}
+use Rattle.question_text.specs.Rules.{IsCondition, IsAssignRule, IsRevokeRule, IsMost, IsProfile}
 use Rattle.question_writer.specs.Texts.{named}
 use Rattle.question_writer.proofs.BlockLemmas.{Entry, row_data, section_data}
 use Rattle.question_writer.proofs.EntryLemmas.{role_data, condition_data, most_data, version_number, assign_row, revoke_row, profile_row}
@@ -152,7 +153,7 @@ module _ (names : List (List ℕ)) (ok : AreNames names) where
   is_goal_condition : (cond : Term) → IsCondition (length names) cond → (at : List ℕ) → a_goal_condition names at (condition_data names cond) (Ok cond)
   is_goal_condition cond h at = inr (text_of names cond, refl, is_condition cond h at)
 
-  is_goal : (cond : Term) (conds : List Term) → (length (cond ∷ conds) ≤ MOST_GOALS) × Each (IsCondition (length names)) (cond ∷ conds) → combinations (cond ∷ conds) ≤ MOST_CONJUNCTS
+  is_goal : (cond : Term) (conds : List Term) → (length (cond ∷ conds) ≤ MOST_GOALS) × Each (IsCondition (length names)) (cond ∷ conds) → goal_width (cond ∷ conds) ≤ MOST_CONJUNCTS
       → a_goal names (list_data (condition_data names) (cond ∷ conds)) (Ok (cond ∷ conds))
   is_goal cond conds h narrow =
       let goal : List Term = cond ∷ conds in
@@ -161,10 +162,10 @@ module _ (names : List (List ℕ)) (ok : AreNames names) where
       let few = are_few MOST_GOALS (codes "goal") (condition_data names) goal h.0 in
       let read = are_read (a_goal_condition names) (condition_data names) (codes "goal") goal
       (each_weaker (IsCondition (length names)) (λ t. (at : List ℕ) → a_goal_condition names at (condition_data names t) (Ok t)) is_goal_condition goal h.1) in
-      inr (texts, list, inr (tt, few, inr (goal, read, inr (tt, is_narrow_goal 1 goal (omega arith), refl))))
+      inr (texts, list, inr (tt, few, inr (goal, read, inr (tt, is_narrow_goal goal narrow, refl))))
 
   pub is_the_goal : (need : Bool) (found : Members) (goal : List Term) → get_member (codes "goal") found ≡ list_or_none (condition_data names) goal → (need ≡ true → ¬ (goal ≡ []))
-      → (length goal ≤ MOST_GOALS) × Each (IsCondition (length names)) goal → combinations goal ≤ MOST_CONJUNCTS → the_goal need names found (Ok goal)
+      → (length goal ≤ MOST_GOALS) × Each (IsCondition (length names)) goal → goal_width goal ≤ MOST_CONJUNCTS → the_goal need names found (Ok goal)
   is_the_goal true found [] e some h narrow = absurd (some refl refl)
   is_the_goal false found [] e some h narrow = rw e refl
   is_the_goal true found (cond ∷ conds) e some h narrow = rw e (is_goal cond conds h narrow)

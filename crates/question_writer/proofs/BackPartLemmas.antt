@@ -3,8 +3,6 @@ use Rattle.std.proofs.Common.{◌≡◌, ℕ, ◌+◌, ◌*◌, ◌<◌, ◌≤�
 use Rattle.std.specs.Prelude.{codes, map, not, position, nat_lt, fold}
 use Rattle.std.specs.List.{prefix_len}
 use Rattle.std.specs.Str.{bytes_eq}
-use Rattle.std.proofs.Math.Nat.{mul-le-mul_left, mul_assoc}
-use Rattle.std.proofs.lemmas.Nat.{mul-le}
 use Rattle.std.proofs.lemmas.Bool.Decides.{nat_tests}
 use Rattle.std.proofs.lemmas.Slice.Eq.{bytes_eq-Decides}
 use Rattle.list_words.specs.Lists.{Each}
@@ -16,20 +14,21 @@ use Rattle.role_order.proofs.SetLemmas.{has_role-with_role, rises-with_role, sam
 use Rattle.list_words.proofs.EachLemmas.{each_weaker}
 use Rattle.arbac_policy.specs.Truth.{Term, any, has, lacks, both, either}
 use Rattle.arbac_policy.specs.Rules.{IsKnownPair}
-use Rattle.arbac_rules.specs.Widths.{width}
+use Rattle.arbac_rules.specs.Widths.{width, goal_width}
 use Rattle.arbac_rules.specs.declared.TheConstants.{MOST_CONJUNCTS}
-use Rattle.policy_text.specs.Runs.{set_of}
+use Rattle.cond_text.specs.Named.{set_of}
 use Rattle.toml.specs.Data.{Data, item, no_items, Members, get_member}
 use Rattle.question_text.specs.Outcomes.{Fault, too_wide, Outcome, fails_if, in_turn}
 use Rattle.question_text.specs.Keys.{as_list, required, optional, knows_only, first_unknown, at_most, entries, entry_of}
 use Rattle.question_text.specs.Roles.{role_named, a_role, role_set, an_edge, a_pair, both_roles, is_mixed, not_mixed}
-use Rattle.question_text.specs.Rules.{IsSet, IsPair, combinations}
+use Rattle.question_text.specs.Rules.{IsSet, IsPair}
 use Rattle.question_text.specs.Tables.{not_wide_goal}
 use Rattle.question_writer.proofs.BlockLemmas.{section_data, Entry, row_data}
 use Rattle.question_writer.proofs.EntryLemmas.{role_data, pair_data}
 use Rattle.question_writer.proofs.NamedLemmas.{is_named, each_below}
 use Rattle.question_writer.proofs.BackTableLemmas.{list_or_none}
 use Rattle.question_writer.proofs.ValueLemmas.{list_data, list_items, list_after}
+use Rattle.arbac_rules.proofs.GoalWidthLemmas.{never_many}
 
 pub is_known : (known : List (List ℕ)) (table : Members) (path : List ℕ) → first_unknown known table ≡ None → knows_only known table path (Ok tt)
 is_known known table path e = rw e refl
@@ -164,20 +163,6 @@ holds_apart true t fault h = rw (h refl) refl
 pub is_narrow : (most n : ℕ) (fault : Fault) → n ≤ most → fails_if (nat_lt most n) fault (Ok tt)
 is_narrow most n fault h = let test : nat_lt most n ≡ false = grind (arith, nat_tests) in holds_not (nat_lt most n) fault test
 
-some_width : (t : Term) → 1 ≤ width t
-some_width any = omega arith
-some_width (has role) = omega arith
-some_width (lacks role) = omega arith
-some_width (both t u) = mul-le 1 1 (width t) (width u) (some_width t) (some_width u)
-some_width (either t u) = let first = some_width t in omega arith
-
-some_combinations : (conds : List Term) → 1 ≤ combinations conds
-some_combinations [] = omega arith
-some_combinations (cond ∷ conds) = mul-le 1 1 (width cond) (combinations conds) (some_width cond) (some_combinations conds)
-
-pub is_narrow_goal : (before : ℕ) (conds : List Term) → before * combinations conds ≤ MOST_CONJUNCTS → not_wide_goal before conds (Ok tt)
-is_narrow_goal before [] h = refl
-is_narrow_goal before (cond ∷ conds) h =
-    let more : before * width cond * combinations conds ≤ MOST_CONJUNCTS = subst (λ (n : ℕ). n ≤ MOST_CONJUNCTS) (sym (mul_assoc before (width cond) (combinations conds))) h in
-    let one : before * width cond * 1 ≤ before * width cond * combinations conds = mul-le-mul_left (before * width cond) (some_combinations conds) in
-    inr (tt, is_narrow MOST_CONJUNCTS (before * width cond) (too_wide (codes "goal") (before * width cond)) (omega arith), is_narrow_goal (before * width cond) conds more)
+-- a goal with few combinations passes
+pub is_narrow_goal : (conds : List Term) → goal_width conds ≤ MOST_CONJUNCTS → not_wide_goal conds (Ok tt)
+is_narrow_goal conds h = let none = never_many 1 conds (omega (h, arith)) in rw none refl

@@ -11,7 +11,7 @@ use Rattle.role_order.specs.declared.range.Range.{Range}
 use Rattle.list_words.specs.Lists.{Each}
 use Rattle.role_order.specs.Refusals.{AreNames}
 use Rattle.role_order.specs.Roles.{AreBelow}
-use Rattle.list_words.proofs.EachLemmas.{each_weaker}
+use Rattle.list_words.proofs.EachLemmas.{each_weaker, each_append}
 use Rattle.role_order.specs.Names.{is_role_name}
 use Rattle.std.proofs.lemmas.Fmt.{decimal_digit}
 use Rattle.arbac_policy.specs.declared.rule.CanRevoke.{CanRevoke}
@@ -19,8 +19,8 @@ use Rattle.arbac_policy.specs.declared.profile.Profile.{Profile}
 use Rattle.arbac_policy.specs.Truth.{Term, IsKnown}
 use Rattle.arbac_policy.specs.Rules.{IsKnownRange, IsKnownPair}
 use Rattle.cond_text.specs.Printing.{text_of}
-use Rattle.policy_text.specs.LineForms.{spell_range}
-use Rattle.policy_text.specs.Runs.{AssignRule}
+use Rattle.cond_text.specs.Ranges.{spell_range}
+use Rattle.arbac_policy.specs.PlainRules.{AssignRule}
 use Rattle.toml_writer.specs.Text.{key_text}
 use Rattle.toml.specs.Data.{Data, string, integer, boolean, depth, has_valid_dates}
 use Rattle.toml.specs.Tables.{at_key, along_dots}
@@ -275,10 +275,6 @@ sections_written q h =
       ),
     )
 
-each-append : {A : Type 0} (P : A → Type 0) (xs ys : List A) → Each P xs → Each P ys → Each P (xs ++ ys)
-each-append P [] ys a b = b
-each-append P (x ∷ xs) ys a b = (a.0, each-append P xs ys a.1 b)
-
 version_item : (pairs : List (ℕ × ℕ)) → IsItem 0 (integer (pos (version_number pairs))) (version_text pairs)
 version_item [] = subst (λ (text : List ℕ). IsItem 0 (integer (pos 1)) text) (decimal_digit 1 (omega arith)) (number_item 1 (omega arith))
 version_item (pair ∷ pairs) = subst (λ (text : List ℕ). IsItem 0 (integer (pos 2)) text) (decimal_digit 2 (omega arith)) (number_item 2 (omega arith))
@@ -317,7 +313,7 @@ top_written q h =
             is_entry 1 (codes "admin_roles") _ _ (omega arith) refl refl (set_item q.names ok q.admin_roles h.admins),
             (
               is_entry 2 (codes "edges") _ _ (omega arith) refl refl (list_item 1 (pair_data q.names) (pair_text q.names) q.edges edge_items),
-              each-append IsEntry (exclusive_entries q.names q.exclusive) (goal_entries q.names q.goal) (exclusive_written q.names ok q.exclusive h.exclusive.1) (goal_written q.names ok q.goal h.goal.1),
+              each_append IsEntry (exclusive_entries q.names q.exclusive) (goal_entries q.names q.goal) (exclusive_written q.names ok q.exclusive h.exclusive.1) (goal_written q.names ok q.goal h.goal.1),
             ),
           ),
         ),

@@ -8,7 +8,7 @@ use Rattle.role_order.specs.Names.{is_name, is_reserved, is_role_name, place_of}
 use Rattle.role_order.specs.Refusals.{AreNames}
 use Rattle.list_words.specs.Lists.{Each}
 use Rattle.role_order.specs.Roles.{AreBelow, has_role}
-use Rattle.list_words.proofs.TestLemmas.{or_right}
+use Rattle.list_words.proofs.TestLemmas.{or_right, and_both}
 use Rattle.std.proofs.lemmas.Bool.{eq-eqb}
 use Rattle.list_words.proofs.EachLemmas.{each_at}
 use Rattle.list_words.proofs.GetLemmas.{get_at}
@@ -21,8 +21,8 @@ use Rattle.cond_text.specs.Grammar.{Phrase, an_any, a_name, a_not, enclosed, an_
 use Rattle.cond_text.specs.Printing.{phrase_at, written, text_of}
 use Rattle.cond_text.proofs.FewestLemmas.{phrase_value}
 use Rattle.cond_text.proofs.NameLemmas.{IsProper, proper}
-use Rattle.policy_text.specs.LineForms.{spell_range}
-use Rattle.policy_text.proofs.WordLemmas.{name_bytes}
+use Rattle.cond_text.specs.Ranges.{spell_range, opening_text, closing_text}
+use Rattle.cond_text.proofs.NamedLemmas.{name_bytes}
 use Rattle.question_writer.specs.Texts.{named}
 use Rattle.question_writer.proofs.ValueLemmas.{IsPlain, names_plain, plain-append}
 
@@ -57,11 +57,7 @@ the_place names role h p =
 
 role_name_is : (text : List ℕ) → is_role_name text ≡ true → is_name text ≡ true
 unfolding is_role_name
-role_name_is text h = first (is_name text) (not (is_reserved text)) h
-  where
-    first : (a b : Bool) → (a && b) ≡ true → a ≡ true
-    first true b e = refl
-    first false b e = e
+role_name_is text h = (and_both (is_name text) (not (is_reserved text)) h).0
 
 pub name_plain : (text : List ℕ) → is_role_name text ≡ true → IsPlain text
 name_plain text h = names_plain text (name_bytes text (role_name_is text h))
@@ -92,15 +88,19 @@ module _ (names : List (List ℕ)) (ok : AreNames names) where
       let P : Term → Type 0 = λ v. IsKnown (length names) v in
       written_plain (phrase_at Condition t) (subst P (sym (phrase_value Condition t)) h)
 
-  bracket_plain : (t : Bool) (a b : ℕ) → IsPlain (a ∷ []) → IsPlain (b ∷ []) → IsPlain ((cond t a b) ∷ [])
-  bracket_plain true a b x y = x
-  bracket_plain false a b x y = y
+  opening_plain : (is_open : Bool) → IsPlain (opening_text is_open)
+  opening_plain true = refl
+  opening_plain false = refl
+
+  closing_plain : (is_open : Bool) → IsPlain (closing_text is_open)
+  closing_plain true = refl
+  closing_plain false = refl
 
   pub range_plain : (range : Range) → IsKnownRange (length names) range → IsPlain (spell_range (named names range))
   range_plain range h =
       let low : List ℕ = get_or names range.low [] in
       let high : List ℕ = get_or names range.high [] in
-      plain-append ((cond range.low_open 40 91) ∷ []) (low ++ (44 ∷ (high ++ ((cond range.high_open 41 93) ∷ [])))) (bracket_plain range.low_open 40 91 refl refl)
-      (plain-append low (44 ∷ (high ++ ((cond range.high_open 41 93) ∷ []))) (is_named names ok range.low h.0).plain
-      (plain-append (44 ∷ []) (high ++ ((cond range.high_open 41 93) ∷ [])) refl
-      (plain-append high ((cond range.high_open 41 93) ∷ []) (is_named names ok range.high h.1).plain (bracket_plain range.high_open 41 93 refl refl))))
+      let back = closing_text range.high_open in
+      plain-append (opening_text range.low_open) (low ++ (codes "," ++ (high ++ back))) (opening_plain range.low_open)
+      (plain-append low (codes "," ++ (high ++ back)) (is_named names ok range.low h.0).plain
+      (plain-append (codes ",") (high ++ back) refl (plain-append high back (is_named names ok range.high h.1).plain (closing_plain range.high_open))))

@@ -10,37 +10,10 @@ use Rattle.role_order.proofs.SetLemmas.{has_role-below}
 use Rattle.arbac_policy.specs.declared.profile.Profile.{Profile}
 use Rattle.arbac_policy.specs.declared.rule.CanRevoke.{CanRevoke}
 use Rattle.arbac_policy.specs.Truth.{Term}
-use Rattle.policy_text.specs.Runs.{AssignRule}
+use Rattle.arbac_policy.specs.PlainRules.{AssignRule}
 use Rattle.question_writer.specs.Texts.{line, quoted, listed, role_text, pair_text, version_text, truth_text, exclusive_text, goal_text, assign_text, revoke_text, profile_text, keys_text, tables_text}
 use Rattle.question_text.specs.Values.{QuestionValue}
-
--- a piece moves from what is to come to what is written
-pub moved : (text piece new rest whole : List ℕ) → text ++ (piece ++ rest) ≡ whole → new ≡ text ++ piece → new ++ rest ≡ whole
-moved text piece new rest whole h e = ap (λ t. t ++ rest) e ∙ append_assoc text piece rest ∙ h
-
-pub finished : (text rest whole : List ℕ) → rest ≡ [] → text ++ rest ≡ whole → text ≡ whole
-finished text rest whole none h = sym (append-nil text) ∙ ap (λ r. text ++ r) (sym none) ∙ h
-
-drop_at : {A : Type 0} (xs : List A) (i : ℕ) (x : A) → slice_get xs i ≡ Some x → drop i xs ≡ x ∷ drop (i + 1) xs
-drop_at [] i x e = cc
-drop_at (y ∷ ys) zero x e = let same : y ≡ x = cc in ap (λ t. t ∷ ys) same
-drop_at (y ∷ ys) (suc i) x e = let n : suc i + 1 ≡ suc (i + 1) = omega arith in rw n (drop_at ys i x e)
-
-drop_all : {A : Type 0} (xs : List A) (i : ℕ) → length xs ≤ i → drop i xs ≡ []
-drop_all [] zero l = refl
-drop_all [] (suc i) l = refl
-drop_all (x ∷ xs) zero l = absurd (omega arith)
-drop_all (x ∷ xs) (suc i) l = drop_all xs i (omega arith)
-
--- ---- items behind one another
-
-pub flat_step : {A : Type 0} (piece : A → List ℕ) (xs : List A) (place : ℕ) (x : A) (text new whole : List ℕ) → slice_get xs place ≡ Some x
-    → text ++ flat_map piece (drop place xs) ≡ whole → new ≡ text ++ piece x → new ++ flat_map piece (drop (place + 1) xs) ≡ whole
-flat_step piece xs place x text new whole at h e =
-    moved text (piece x) new (flat_map piece (drop (place + 1) xs)) whole (ap (λ ys. text ++ flat_map piece ys) (sym (drop_at xs place x at)) ∙ h) e
-
-pub flat_end : {A : Type 0} (piece : A → List ℕ) (xs : List A) (place : ℕ) (text whole : List ℕ) → length xs ≤ place → text ++ flat_map piece (drop place xs) ≡ whole → text ≡ whole
-flat_end piece xs place text whole end h = finished text (flat_map piece (drop place xs)) whole (ap (flat_map piece) (drop_all xs place end)) h
+use Rattle.text_pieces.proofs.PieceLemmas.{moved, finished, drop_at, drop_all}
 
 -- ---- items with commas between them
 

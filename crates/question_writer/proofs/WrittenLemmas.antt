@@ -7,7 +7,7 @@ use Rattle.role_order.specs.Names.{is_role_name}
 use Rattle.list_words.proofs.EachLemmas.{each_weaker}
 use Rattle.arbac_policy.specs.Rules.{IsKnownPair}
 use Rattle.arbac_policy.specs.Truth.{term_of}
-use Rattle.policy_text.specs.declared.TheConstants.{MOST_EDGES}
+use Rattle.arbac_policy.specs.declared.TheConstants.{MOST_EDGES}
 use Rattle.toml.specs.Data.{Data, string, integer, boolean, Members, as_bool}
 use Rattle.question_text.specs.declared.TheConstants.{MOST_PAIRS}
 use Rattle.question_text.specs.Outcomes.{wrong_kind}

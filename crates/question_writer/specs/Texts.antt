@@ -1,4 +1,4 @@
--- The text that is written for a question; each line ends in LF (10).
+-- The text that is written for a question; each line ends in a line feed.
 use Rattle.std.specs.Prelude.{ℕ, Bool, if◌then◌else◌, List, [], ◌∷◌, ◌++◌, Option, Some, None, codes, get_or}
 use Rattle.std.specs.Fmt.{decimal}
 use Rattle.std.specs.List.{flat_map, join_by}
@@ -7,13 +7,13 @@ use Rattle.arbac_policy.specs.declared.rule.CanRevoke.{CanRevoke}
 use Rattle.arbac_policy.specs.declared.profile.Profile.{Profile}
 use Rattle.arbac_policy.specs.Truth.{Term}
 use Rattle.cond_text.specs.Printing.{text_of}
-use Rattle.policy_text.specs.LineForms.{NamedRange, spell_range}
-use Rattle.policy_text.specs.Runs.{AssignRule}
+use Rattle.cond_text.specs.Ranges.{NamedRange, spell_range}
+use Rattle.arbac_policy.specs.PlainRules.{AssignRule}
 use Rattle.question_text.specs.Values.{QuestionValue}
 
 -- `key = value`
 abbrev pub line : List ℕ → List ℕ → List ℕ
-line key value = key ++ (codes " = " ++ (value ++ (10 ∷ [])))
+line key value = key ++ (codes " = " ++ (value ++ codes "\n"))
 
 -- `[[key]]`
 abbrev pub header : List ℕ → List ℕ
@@ -21,7 +21,7 @@ header key = codes "[[" ++ (key ++ codes "]]\n")
 
 -- `"text"`
 abbrev pub quoted : List ℕ → List ℕ
-quoted text = 34 ∷ (text ++ (34 ∷ []))
+quoted text = codes "\"" ++ (text ++ codes "\"")
 
 -- `[first, second]`, each item by its text
 abbrev pub listed : {A : Type 0} → (A → List ℕ) → List A → List ℕ

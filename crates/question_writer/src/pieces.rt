@@ -1,11 +1,11 @@
 //! Texts that grow piece by piece: values, and lists of them.
 
 ghost use Rattle.std.specs.Prelude.{◌≡◌, ◌<◌, ◌++◌, ◌∷◌, [], map, OnOk, IfOk, length, codes, if◌then◌else◌, ◌==◌};
-ghost use Rattle.std.specs.Fmt.{decimal};
 ghost use Rattle.list_words.specs.Lists.{Each};
 ghost use Rattle.role_order.specs.Roles.{has_role};
 ghost use Rattle.arbac_policy.specs.Truth.{term_of, IsKnown};
 ghost use Rattle.arbac_policy.specs.Rules.{IsKnownPair, IsKnownRange};
+ghost use Rattle.cond_text.specs.Ranges.{opening_text, closing_text};
 ghost use Rattle.question_text.specs.Rules.{IsSet};
 ghost use Rattle.question_writer.specs.Texts.{header, quoted, listed, role_text, pair_text, condition_text, range_text};
 
@@ -13,23 +13,7 @@ use arbac_policy::Cond;
 use cond_text::print_cond;
 use role_order::{Order, Range, RoleSet};
 use std::alloc::{AllocError, Global};
-
-/// Puts the words behind the text.
-pub fn put(text: &mut Vec<u8>, words: &str) -> Result<(), AllocError>
-    ensures { OnOk result (text.new.items ≡ text.old.items ++ words.now) }
-{
-    text.extend_from_slice(words.as_bytes())?;
-    Ok(())
-}
-
-/// Puts the number behind the text, in decimal.
-pub fn put_number(alloc: Global, text: &mut Vec<u8>, number: u32) -> Result<(), AllocError>
-    ensures { OnOk result (text.new.items ≡ text.old.items ++ decimal number) }
-{
-    let digits = number.to_string(alloc)?;
-    put(text, digits.as_str())?;
-    Ok(())
-}
+use text_pieces::put;
 
 /// Puts the words between quotation marks behind the text.
 pub fn put_quoted(text: &mut Vec<u8>, words: &str) -> Result<(), AllocError>
@@ -105,13 +89,13 @@ pub fn put_condition(
 }
 
 fn opening(is_open: bool) -> &'static str
-    ensures { result.now ≡ (if is_open then 40 else 91) ∷ [] }
+    ensures { result.now ≡ opening_text is_open }
 {
     if is_open { "(" } else { "[" }
 }
 
 fn closing(is_open: bool) -> &'static str
-    ensures { result.now ≡ (if is_open then 41 else 93) ∷ [] }
+    ensures { result.now ≡ closing_text is_open }
 {
     if is_open { ")" } else { "]" }
 }

@@ -2,7 +2,7 @@ use Rattle.std.proofs.Common.{◌∙◌, sym, arith, inr}
 use Rattle.std.proofs.lemmas.Result.{err_from_is_err_and}
 use Rattle.policy_text.specs.Runs.{behind_edges}
 use Rattle.policy_text.specs.Steps.{order_view, body_view, run_view}
-use Rattle.policy_text.proofs.LineLemmas.{cut_shorter, cut_within}
+use Rattle.cond_text.proofs.CutLemmas.{cut_shorter, cut_within}
 use Rattle.policy_text.proofs.StepLemmas.{passes_more, body_stop, begun, late_line, ends_here, goes_on, has_no_end}
 use Rattle.policy_text.proofs.body.read_body.Goals as goal
 

@@ -1,6 +1,7 @@
 use Rattle.std.proofs.Common.{arith, sym, map}
-use Rattle.policy_text.proofs.UserLemmas.{set_more, set_all, unknown_at, map_at, map_long}
+use Rattle.policy_text.proofs.UserLemmas.{set_more, set_all, unknown_at, map_at}
 use Rattle.policy_text.proofs.body.set_named.Goals as goal
+use Rattle.std.proofs.lemmas.List.{length-map}
 
 pub returns-in_default-clause-none : goal.returns-in_default-clause-none
 returns-in_default-clause-none c =
@@ -14,5 +15,5 @@ loop-name-preserved c =
 
 pub returns-clause-some : goal.returns-clause-some
 returns-clause-some c =
-    let long = map_long (λ name. name.now) c.args.names.now in
+    let long = length-map c.args.names.now (λ name. name.now) in
     set_all c.args.order.now.names (map (λ name. name.now) c.args.names.now) c.loop-name.name-index c.loop-name.set (omega (arith, long)) c.loop-name.invariant

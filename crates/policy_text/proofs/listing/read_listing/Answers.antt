@@ -2,7 +2,7 @@ use Rattle.std.proofs.Common.{arith, inl, refl}
 use Rattle.std.proofs.lemmas.Result.{err_from_is_err_and}
 use Rattle.policy_text.specs.Runs.{nothing}
 use Rattle.policy_text.specs.Steps.{listing_view}
-use Rattle.policy_text.proofs.LineLemmas.{cut_shorter}
+use Rattle.cond_text.proofs.CutLemmas.{cut_shorter}
 use Rattle.policy_text.proofs.StepLemmas.{passes_more, told_stop}
 use Rattle.policy_text.proofs.RunLemmas.{few_nothing}
 use Rattle.policy_text.proofs.listing.read_listing.Goals as goal

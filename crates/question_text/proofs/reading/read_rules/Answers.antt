@@ -1,7 +1,7 @@
 use Rattle.std.proofs.Common.{map, refl, inl, inr}
 use Rattle.std.specs.Prelude.{codes}
 use Rattle.toml.specs.View.{table_view}
-use Rattle.policy_text.specs.Runs.{plain_rule}
+use Rattle.arbac_policy.specs.PlainRules.{plain_rule}
 use Rattle.question_text.specs.Tables.{assign_rules, revoke_rules}
 use Rattle.question_text.specs.Documents.{the_rules}
 use Rattle.question_text.specs.Views.{rules_view}

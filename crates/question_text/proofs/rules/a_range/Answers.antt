@@ -1,5 +1,5 @@
 use Rattle.std.proofs.Common.{refl, inl, inr}
-use Rattle.policy_text.specs.Views.{range_view}
+use Rattle.cond_text.specs.Ranges.{range_view}
 use Rattle.question_text.specs.Roles.{role_named}
 use Rattle.question_text.specs.Tables.{a_range}
 use Rattle.question_text.proofs.TableLemmas.{stops}

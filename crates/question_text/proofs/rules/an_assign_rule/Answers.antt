@@ -1,7 +1,7 @@
 use Rattle.std.proofs.Common.{refl, inl, inr}
 use Rattle.toml.specs.Data.{as_table}
 use Rattle.toml.specs.View.{table_view, view}
-use Rattle.policy_text.specs.Runs.{plain_rule}
+use Rattle.arbac_policy.specs.PlainRules.{plain_rule}
 use Rattle.question_text.specs.Tables.{assign_parts, assign_tests, an_assign_rule}
 use Rattle.question_text.proofs.KeyLemmas.{kind_seen}
 use Rattle.question_text.proofs.TableLemmas.{stops}

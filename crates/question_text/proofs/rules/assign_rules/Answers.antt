@@ -5,8 +5,8 @@ use Rattle.std.specs.Borrow.{Bor}
 use Rattle.std.specs.declared.alloc.Global.{Global}
 use Rattle.toml.specs.declared.value.Value.{Value}
 use Rattle.toml.specs.View.{table_view, array_view}
-use Rattle.policy_text.specs.declared.TheConstants.{MOST_RULES}
-use Rattle.policy_text.specs.Runs.{plain_rule}
+use Rattle.arbac_policy.specs.declared.TheConstants.{MOST_RULES}
+use Rattle.arbac_policy.specs.PlainRules.{plain_rule}
 use Rattle.question_text.specs.Keys.{list_of, as_list, optional}
 use Rattle.question_text.specs.Views.{entries_of}
 use Rattle.question_text.specs.Tables.{an_assign_rule}

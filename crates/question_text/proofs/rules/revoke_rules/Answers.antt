@@ -4,7 +4,7 @@ use Rattle.std.specs.Borrow.{Bor}
 use Rattle.std.specs.declared.alloc.Global.{Global}
 use Rattle.toml.specs.declared.value.Value.{Value}
 use Rattle.toml.specs.View.{table_view, array_view}
-use Rattle.policy_text.specs.declared.TheConstants.{MOST_RULES}
+use Rattle.arbac_policy.specs.declared.TheConstants.{MOST_RULES}
 use Rattle.question_text.specs.Keys.{list_of, as_list, optional}
 use Rattle.question_text.specs.Views.{entries_of}
 use Rattle.question_text.specs.Tables.{a_revoke_rule}

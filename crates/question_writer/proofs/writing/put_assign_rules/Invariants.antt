@@ -1,6 +1,6 @@
 use Rattle.std.proofs.Common.{◌≡◌, ◌++◌, drop, map}
 use Rattle.std.specs.List.{flat_map}
-use Rattle.policy_text.specs.Runs.{plain_rule}
+use Rattle.arbac_policy.specs.PlainRules.{plain_rule}
 use Rattle.question_writer.specs.Texts.{assign_text}
 use Rattle.question_writer.proofs.writing.put_assign_rules.Given as goal
 

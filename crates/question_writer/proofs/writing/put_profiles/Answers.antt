@@ -1,8 +1,8 @@
 use Rattle.std.proofs.Common.{◌∙◌, sym, ap, Some}
 use Rattle.list_words.proofs.GetLemmas.{get_at}
 use Rattle.question_writer.specs.Texts.{profile_text}
-use Rattle.question_writer.proofs.PieceLemmas.{flat_step, flat_end}
 use Rattle.question_writer.proofs.writing.put_profiles.Goals as goal
+use Rattle.text_pieces.proofs.PieceLemmas.{flat_step, flat_end}
 
 pub loop-profile-preserved : goal.loop-profile-preserved
 loop-profile-preserved c = flat_step (profile_text c.args.order.now.names) c.args.profiles.now c.loop-profile.profile-index c.profile-item.result c.loop-profile.text.items c.put_profile.new.text.items _

@@ -1,6 +1,6 @@
 use Rattle.std.proofs.Common.{ap, map}
 use Rattle.role_order.specs.Graph.{Graph}
-use Rattle.policy_text.specs.Runs.{plain_rule}
+use Rattle.arbac_policy.specs.PlainRules.{plain_rule}
 use Rattle.question_text.specs.Values.{plain_of}
 use Rattle.question_writer.proofs.PieceLemmas.{tables_done}
 use Rattle.question_writer.proofs.writing.put_tables.Goals as goal

@@ -1,5 +1,5 @@
 use Rattle.toml.specs.View.{view}
-use Rattle.policy_text.specs.Runs.{plain_rule}
+use Rattle.arbac_policy.specs.PlainRules.{plain_rule}
 use Rattle.question_text.specs.Tables.{an_assign_rule}
 use Rattle.question_text.proofs.SeenLemmas.{seen_answer}
 use Rattle.question_text.proofs.rules.AssignReaderReadEntry.read.Goals as goal

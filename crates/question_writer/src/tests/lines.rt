@@ -1,7 +1,7 @@
 //! A question as lines of numbers.
 
-use crate::Question;
 use arbac_policy::{CanAssign, CanRevoke, Cond, Profile};
+use question_text::Question;
 use role_order::{Order, Range, RoleSet};
 use std::alloc::{AllocError, Global};
 

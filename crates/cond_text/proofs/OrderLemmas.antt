@@ -14,7 +14,7 @@ use Rattle.role_order.specs.Names.{place_of, is_role_name}
 use Rattle.role_order.specs.Graph.{Leads, IsEdge, AreEdges, IsCycle}
 use Rattle.role_order.specs.Refusals.{AreRoleNames, IsOrder, IsRepeated, IsRefused}
 use Rattle.list_words.proofs.EachLemmas.{each_at}
-use Rattle.list_words.proofs.GetLemmas.{get_take, get_taken}
+use Rattle.list_words.proofs.GetLemmas.{get_take, get_taken, same_some}
 
 prefix_at : (name : List ℕ) (names : List (List ℕ)) → position_or_len (λ other. bytes_eq other name) names < length names
     → slice_get names (position_or_len (λ other. bytes_eq other name) names) ≡ Some name
@@ -100,9 +100,6 @@ repeated_earlier names f g p q a b l =
     let at = earlier names f p a in
     let same = b.none_before f p a.name (get_take names q f (omega (arith, at.0)) ∙ at.1) (get_take names q p l ∙ a.at) in
     absurd (omega (arith, at.0, same))
-
-same_some : {A : Type 0} (x y : A) → Some x ≡ Some y → x ≡ y
-same_some x y e = cc
 
 repeated_first : (names : List (List ℕ)) (f g p q : ℕ) → p ≡ q → (a : IsRepeated names f p) → (b : IsRepeated names g q) → f ≡ g
 repeated_first names f g p q e a b =
