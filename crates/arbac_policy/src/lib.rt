@@ -3,6 +3,7 @@
 
 mod act;
 mod cond;
+mod conjunct;
 mod holder;
 mod policy;
 mod profile;
@@ -14,6 +15,7 @@ mod verdict;
 
 pub use act::{Act, ActKind};
 pub use cond::Cond;
+pub use conjunct::Conjunct;
 pub use holder::On;
 pub use policy::Policy;
 pub use profile::Profile;
