@@ -2,7 +2,7 @@
 use Rattle.std.proofs.Common.{ℕ, ◌≡◌, ◌<◌, ◌≤◌, ◌+◌, ◌^◌, ◌∙◌, ◌⊎◌, Bool, true, false, cond, List, [], ◌∷◌, ◌++◌, length, Option, Some, zero, suc, refl, ap, sym, subst, arith, inl, inr, take}
 use Rattle.std.specs.Prelude.{slice_get, slice_set, slice_index_or, insert}
 use Rattle.std.specs.Str.{bytes_eq}
-use Rattle.std.specs.List.Sorted.{IsPartitionedBy}
+use Rattle.std.specs.List.Sorted.{IsPartitionedBy, IsPartitionPoint}
 use Rattle.std.proofs.lemmas.Bool.{false≢true}
 use Rattle.std.proofs.lemmas.Slice.Eq.{bytes_eq-Decides}
 use Rattle.list_words.specs.Lists.{Each, Some_of}
@@ -30,21 +30,27 @@ parted set (p ∷ ps) r zero (suc j) d le less h =
 parted set (p ∷ ps) r (suc i) zero d le less h = absurd (omega arith)
 parted set (p ∷ ps) r (suc i) (suc j) d le less h = parted set ps r.1 i j d (omega arith) (omega arith) h
 
-pub add_new : (set : List ℕ) (ps : List Profile) (at : ℕ) → at ≤ length ps → ((k : ℕ) (p : Profile) → k < at → slice_get ps k ≡ Some p → set_before p.set set ≡ true)
-    → ((p : Profile) → slice_get ps at ≡ Some p → set_before p.set set ≡ false) → ((p : Profile) → slice_get ps at ≡ Some p → set_before set p.set ≡ true)
-    → insert ps at (first_of set) ≡ with_member ps set
-add_new set [] zero le before here after = refl
-add_new set [] (suc at) le before here after = absurd (omega arith)
-add_new set (p ∷ ps) zero le before here after = rw (here p refl, after p refl) refl
-add_new set (p ∷ ps) (suc at) le before here after =
-    rw (before 0 p (omega arith) refl) (ap (λ (t : List Profile). p ∷ t) (add_new set ps at (omega arith) (λ k q less e. before (suc k) q (omega arith) e) here after))
+-- the place before which all sets are before a set, and from which on none is
+abbrev pub IsParting : List ℕ → List Profile → ℕ → Type 0
+IsParting set ps at = IsPartitionPoint (λ p. set_before p.set set ≡ true) (λ p. set_before p.set set ≡ false) ps at
 
-pub add_here : (set : List ℕ) (ps : List Profile) (at : ℕ) (p : Profile) → ((k : ℕ) (q : Profile) → k < at → slice_get ps k ≡ Some q → set_before q.set set ≡ true)
-    → slice_get ps at ≡ Some p → set_before p.set set ≡ false → set_before set p.set ≡ false → slice_set ps at (with_one p) ≡ with_member ps set
-add_here set [] at p before e here after = cc
-add_here set (q ∷ qs) zero p before e here after = let same : q ≡ p = cc in rw (same, here, after) refl
-add_here set (q ∷ qs) (suc at) p before e here after =
-    rw (before 0 q (omega arith) refl) (ap (λ (t : List Profile). q ∷ t) (add_here set qs at p (λ k r less f. before (suc k) r (omega arith) f) e here after))
+rest : (set : List ℕ) (p : Profile) (ps : List Profile) (at : ℕ) → IsParting set (p ∷ ps) (suc at) → IsParting set ps at
+rest set p ps at point = (λ k d less within. point.0 (suc k) d (omega arith) (omega arith), λ k d less within. point.1 (suc k) d (omega arith) (omega arith))
+
+pub add_new : (set : List ℕ) (ps : List Profile) (at : ℕ) → at ≤ length ps → IsParting set ps at
+    → ((p : Profile) → slice_get ps at ≡ Some p → set_before set p.set ≡ true) → insert ps at (first_of set) ≡ with_member ps set
+add_new set [] zero le point after = refl
+add_new set [] (suc at) le point after = absurd (omega arith)
+add_new set (p ∷ ps) zero le point after = rw (point.1 0 p (omega arith) (omega arith), after p refl) refl
+add_new set (p ∷ ps) (suc at) le point after =
+    rw (point.0 0 p (omega arith) (omega arith)) (ap (λ (t : List Profile). p ∷ t) (add_new set ps at (omega arith) (rest set p ps at point) after))
+
+pub add_here : (set : List ℕ) (ps : List Profile) (at : ℕ) (p : Profile) → IsParting set ps at
+    → slice_get ps at ≡ Some p → set_before set p.set ≡ false → slice_set ps at (with_one p) ≡ with_member ps set
+add_here set [] at p point e after = cc
+add_here set (q ∷ qs) zero p point e after = let same : q ≡ p = cc in rw (same, rw same at point.1 0 q (omega arith) (omega arith), after) refl
+add_here set (q ∷ qs) (suc at) p point e after =
+    rw (point.0 0 q (omega arith) (omega arith)) (ap (λ (t : List Profile). q ∷ t) (add_here set qs at p (rest set q qs at point) e after))
 
 -- one user more
 

@@ -5,7 +5,7 @@ use Rattle.std.proofs.lemmas.Bool.{eqb-true, eq-eqb}
 use Rattle.list_words.specs.Lists.{Some_of}
 use Rattle.role_order.specs.Ranges.{IsInRange}
 use Rattle.role_order.specs.Roles.{has_role, without_role, IsIn}
-use Rattle.list_words.proofs.EachLemmas.{some_at, some_weaker}
+use Rattle.list_words.proofs.EachLemmas.{some_at, some_item, some_weaker}
 use Rattle.role_order.proofs.SetLemmas.{has_role-with_role}
 use Rattle.list_words.proofs.TestLemmas.{or_cases}
 use Rattle.arbac_policy.specs.declared.act.ActKind.{ActKind}
@@ -18,7 +18,6 @@ use Rattle.arbac_policy.specs.Rules.{Rules}
 use Rattle.arbac_policy.specs.Holders.{assign_rules, revoke_rules, pairs_of, admins_of, falling}
 use Rattle.arbac_policy.specs.Steps.{Blocks, LetsAssign, LetsRevoke, AssignStep, WeakStep, WeakSteps, StrongStep, KindStep}
 use Rattle.arbac_policy.specs.Verdicts.{PlaceFails, FitsRule, AssignFails, RevokeFails, AssignDenied, WeakDenied, WeaksDenied, StrongDenied, KindDenied}
-use Rattle.ura_core.proofs.StepLemmas.{some_item}
 
 pub places_no : (users old : List (List ℕ)) (admin target : ℕ) (part : Part) (by set : List ℕ) → PlaceFails users old admin target part
     → slice_get users admin ≡ Some by → slice_get old target ≡ Some set → ⊥
@@ -35,7 +34,7 @@ pub assign_no : (holder : Holder) (rules : Rules) (by set : List ℕ) (role : �
 assign_no holder rules by set role (NoUser side place) h lets free = h
 assign_no holder rules by set role (NoRole r) h lets free =
     let one = some_item (LetsAssign holder rules by set role) (assign_rules holder rules) lets in
-    let few : role < length rules.order.names = one.1.in_range.is_role in
+    let few : role < length rules.order.names = one.2.in_range.is_role in
     absurd (omega (arith, h.1))
 assign_no holder rules by set role (NoRange r) h lets free =
     h.2 (some_weaker (LetsAssign holder rules by set role) (λ rule. IsInRange rules.order rule.range role) (λ rule l. l.in_range) (assign_rules holder rules) lets)
@@ -51,7 +50,7 @@ pub revoke_no : (holder : Holder) (rules : Rules) (by : List ℕ) (role : ℕ) (
 revoke_no holder rules by role (NoUser side place) h lets = h
 revoke_no holder rules by role (NoRole r) h lets =
     let one = some_item (LetsRevoke rules by role) (revoke_rules holder rules) lets in
-    let few : role < length rules.order.names = one.1.in_range.is_role in
+    let few : role < length rules.order.names = one.2.in_range.is_role in
     absurd (omega (arith, h.1))
 revoke_no holder rules by role (NoRange r) h lets =
     h.2 (some_weaker (LetsRevoke rules by role) (λ rule. IsInRange rules.order rule.range role) (λ rule l. l.in_range) (revoke_rules holder rules) lets)
@@ -103,7 +102,7 @@ weak_steps_role holder rules users old admin target (first ∷ roles) new role s
     by_case : (eqb first role ≡ true) ⊎ (has_role roles role ≡ true) → (has_role roles role ≡ true → role < length rules.order.names) → role < length rules.order.names
     by_case (inl e) rest =
         let one = some_item (LetsRevoke rules steps.1.by first) (revoke_rules holder rules) steps.1.lets in
-        subst (λ r. r < length rules.order.names) (eqb-true first role e) one.1.in_range.is_role
+        subst (λ r. r < length rules.order.names) (eqb-true first role e) one.2.in_range.is_role
     by_case (inr k) rest = rest k
 
 pub strong_denied_no : (holder : Holder) (rules : Rules) (users old : List (List ℕ)) (admin target role : ℕ) (part : Part) (new : List (List ℕ)) (by : List ℕ)

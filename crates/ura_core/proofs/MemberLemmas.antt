@@ -7,11 +7,6 @@ use Rattle.role_order.specs.Graph.{Leads}
 use Rattle.role_order.proofs.SetLemmas.{has_role-with_role}
 use Rattle.list_words.proofs.TestLemmas.{or_cases, or_right}
 use Rattle.arbac_policy.specs.Truth.{IsMember}
-use Rattle.arbac_policy.specs.declared.rule.CanRevoke.{CanRevoke}
-
--- what is read past the end of a table
-abbrev pub nothing : CanRevoke
-nothing = record { admin = 0; range = record { low = 0; high = 0; low_open = false; high_open = false } }
 
 pub member_by : (edges : List (ℕ × ℕ)) (set : List ℕ) (role other : ℕ) → Leads edges role other → IsMember edges (with_role set role) other
 member_by edges set role other led = (role, has_role-with_role set role role ∙ rw (eq-eqb role role refl) refl, led)

@@ -10,5 +10,5 @@ returns-clause-told c = told_of c.args.order.now.names c.args.bytes.now c.read.r
 pub returns-clause-one : goal.returns-clause-one
 returns-clause-one c = one_list c.args.order.now.names c.args.bytes.now
 
-pub returns-then-is_beyond-clause-one : goal.returns-then-is_beyond-clause-one
-returns-then-is_beyond-clause-one c = one_list c.args.order.now.names c.args.bytes.now
+pub returns-then-is_err-clause-one : goal.returns-then-is_err-clause-one
+returns-then-is_err-clause-one c = one_list c.args.order.now.names c.args.bytes.now

@@ -2,8 +2,7 @@ use Rattle.std.proofs.Common.{ℕ, ◌∙◌, List, sym, ap, inr, rules}
 use Rattle.arbac_policy.specs.Holders.{admins_of}
 use Rattle.arbac_policy.specs.Verdicts.{WeakDenied}
 use Rattle.std.specs.Prelude.{slice_set}
-use Rattle.ura_core.proofs.StepLemmas.{get_set_here}
-use Rattle.list_words.proofs.GetLemmas.{set_twice}
+use Rattle.list_words.proofs.GetLemmas.{get_set_same, set_twice}
 use Rattle.ura_core.proofs.strong.revoke_one.Goals as goal
 
 pub returns-in-Some-against_revoke-clause-denied : goal.returns-in-Some-against_revoke-clause-denied
@@ -13,7 +12,7 @@ returns-in-Some-against_revoke-clause-denied c =
       c.in-Some.by,
       c.args.left.now,
       sym c.in-Some.ensures,
-      get_set_here c.args.list.now c.args.act.now.target c.args.left.now c.requires,
+      get_set_same c.args.list.now c.args.act.now.target c.args.left.now c.requires,
       c.in-Some-against_revoke.ensures.some,
     ) in search (rules, denied)
 
@@ -22,7 +21,7 @@ returns-in-None-clause-granted c = record {
   by = c.in-Some.by;
   by_is = sym c.in-Some.ensures;
   set = c.args.left.now;
-  set_is = get_set_here c.args.list.now c.args.act.now.target c.args.left.now c.requires;
+  set_is = get_set_same c.args.list.now c.args.act.now.target c.args.left.now c.requires;
   lets = c.in-None.ensures.none;
   gives = ap (slice_set c.args.list.now c.args.act.now.target) c.without.ensures ∙ sym (set_twice c.args.list.now c.args.act.now.target c.args.left.now _);
 }
