@@ -24,3 +24,4 @@ pub mod ListingRowLemmas
 pub mod FormRowLemmas
 pub mod BarrierRowLemmas
 pub mod RecordedRowLemmas
+pub mod ReachedRowLemmas

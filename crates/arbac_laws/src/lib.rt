@@ -27,6 +27,6 @@ pub use pre_images::{backward_laws, forward_laws, obligation_laws};
 pub use recorded::recorded_laws;
 pub use rows::{
     barrier_rows, closed_row, cover_rows, exclusive_rows, form_rows, listing_rows, pair_rows,
-    recorded_row, senior_rows, worked_rows,
+    reached_row, recorded_row, senior_rows, worked_rows,
 };
 pub use sets::set_laws;

@@ -116,6 +116,11 @@ pub fn closed_row()
     ensures unreachable { ¬ IsReachable mix one_admin (has c ∷ []) }
 {}
 
+/// From two users of adm a run reaches the goal: one of them takes adm from the other and gives it c.
+pub fn reached_row()
+    ensures { IsReachable mix two_admins (has c ∷ []) }
+{}
+
 /// What two users of adm don't meet at first, recorded with its origins.
 pub fn recorded_row()
     ensures { IsRecordedList mix two_admins (has c ∷ []) mix_entries }
