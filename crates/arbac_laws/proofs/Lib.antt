@@ -16,6 +16,7 @@ pub mod NormalLemmas
 pub mod FixedLemmas
 pub mod FormPlaceLemmas
 pub mod BarrierLemmas
+pub mod GainLemmas
 pub mod RowLemmas
 pub mod SetsLemmas
 pub mod RecordedLemmas
@@ -23,5 +24,6 @@ pub mod PairLemmas
 pub mod ListingRowLemmas
 pub mod FormRowLemmas
 pub mod BarrierRowLemmas
+pub mod GainRowLemmas
 pub mod RecordedRowLemmas
 pub mod ReachedRowLemmas

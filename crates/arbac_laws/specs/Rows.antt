@@ -3,6 +3,7 @@ use Rattle.std.specs.Prelude.{ℕ, List, [], ◌∷◌, false, Some, codes}
 use Rattle.role_order.specs.declared.range.Range.{Range}
 use Rattle.arbac_policy.specs.declared.cond.Cond.TheVariants.{Any, Has, Lacks, Or}
 use Rattle.arbac_policy.specs.declared.profile.Profile.{Profile}
+use Rattle.arbac_policy.specs.declared.rule.CanAssign.{CanAssign}
 use Rattle.arbac_policy.specs.Rules.{Rules, policy_of}
 use Rattle.arbac_laws.specs.Needs.{Need}
 use Rattle.arbac_laws.specs.PreImages.{fresh}
@@ -19,11 +20,15 @@ c = 1
 abbrev pub only : ℕ → Range
 only role = record { low = role; high = role; low_open = false; high_open = false }
 
--- members of adm may give c to whoever is no member of adm, and may take adm away
+-- members of adm may give c to whoever is no member of adm
+abbrev pub mix_rule : CanAssign
+mix_rule = record { admin = adm; cond = Lacks adm; range = only c }
+
+-- members of adm may give c so, and may take adm away
 abbrev pub mix : Rules
 mix = record {
   order = record { names = codes "adm" ∷ codes "c" ∷ []; edges = [] };
-  assign = record { admin = adm; cond = Lacks adm; range = only c } ∷ [];
+  assign = mix_rule ∷ [];
   revoke = record { admin = adm; range = only adm } ∷ [];
   assignp = [];
   revokep = [];
@@ -54,7 +59,7 @@ d = 2
 abbrev pub mix_apart : List (ℕ × ℕ) → Rules
 mix_apart pairs = record {
   order = record { names = codes "adm" ∷ codes "c" ∷ codes "d" ∷ []; edges = [] };
-  assign = record { admin = adm; cond = Lacks adm; range = only c } ∷ [];
+  assign = mix_rule ∷ [];
   revoke = record { admin = adm; range = only adm } ∷ [];
   assignp = [];
   revokep = [];

@@ -15,7 +15,7 @@ mod recorded;
 mod rows;
 mod sets;
 
-pub use barriers::barrier_laws;
+pub use barriers::{barrier_laws, gain_laws};
 pub use closed::closed_laws;
 pub use conjuncts::conjunct_laws;
 pub use cover::cover_laws;
@@ -26,7 +26,7 @@ pub use places::{deficient_laws, place_laws};
 pub use pre_images::{backward_laws, forward_laws, obligation_laws};
 pub use recorded::recorded_laws;
 pub use rows::{
-    barrier_rows, closed_row, cover_rows, exclusive_rows, form_rows, listing_rows, pair_rows,
-    reached_row, recorded_row, senior_rows, worked_rows,
+    barrier_rows, closed_row, cover_rows, exclusive_rows, form_rows, gain_rows, listing_rows,
+    pair_rows, reached_row, recorded_row, senior_rows, worked_rows,
 };
 pub use sets::set_laws;

@@ -1,8 +1,8 @@
 //! Small policies, worked.
 
-ghost use Rattle.std.specs.Prelude.{[], ◌∷◌, ◌≡◌, length, Some, None};
+ghost use Rattle.std.specs.Prelude.{[], ◌∷◌, ◌≡◌, length, Some, None, true, false};
 ghost use Rattle.list_words.specs.Lists.{Each};
-ghost use Rattle.arbac_policy.specs.Truth.{has, lacks, both};
+ghost use Rattle.arbac_policy.specs.Truth.{has, lacks, both, either};
 ghost use Rattle.arbac_policy.specs.Goals.{IsReachable};
 ghost use Rattle.arbac_laws.specs.Needs.{Meets, Covers};
 ghost use Rattle.arbac_laws.specs.Conjuncts.{conjuncts};
@@ -12,8 +12,8 @@ ghost use Rattle.arbac_laws.specs.Obligations.{assigns, revokes, obligations, pr
 ghost use Rattle.arbac_laws.specs.NormalForms.{normal_form, pre_form, AreFormPlaces};
 ghost use Rattle.arbac_laws.specs.Closed.{IsClosedList};
 ghost use Rattle.arbac_laws.specs.Recorded.{IsRecordedList};
-ghost use Rattle.arbac_laws.specs.Barriers.{IsCeiling, barriers};
-ghost use Rattle.arbac_laws.specs.Rows.{mix, mix_apart, pair_policy, giver_policy, senior_policy, adm, c, d, one_admin, two_admins, mix_needs, mix_entries};
+ghost use Rattle.arbac_laws.specs.Barriers.{IsCeiling, HasGivenRoles, may_hold, may_give, barriers};
+ghost use Rattle.arbac_laws.specs.Rows.{mix, mix_rule, mix_apart, pair_policy, giver_policy, senior_policy, adm, c, d, one_admin, two_admins, mix_needs, mix_entries};
 ghost use Rattle.arbac_laws.specs.Rows.{hits, hits_either, hits_both, hits_without, without, anyone, untidy};
 
 /// The goal c of a policy where members of adm give c to those without adm, and take adm away: its
@@ -114,6 +114,17 @@ pub fn cover_rows()
 pub fn closed_row()
     ensures closed { IsClosedList mix one_admin (has c ∷ []) mix_needs }
     ensures unreachable { ¬ IsReachable mix one_admin (has c ∷ []) }
+{}
+
+/// Who has adm may have what `adm` wants, and who has nothing what `not adm` wants; by the rule of adm only
+/// members of adm give. With a user of adm, adm alone isn't all that is given.
+pub fn gain_rows()
+    ensures held { may_hold mix.order (adm ∷ []) (both (has adm) (lacks c)) ≡ true }
+    ensures not_held { may_hold mix.order (c ∷ []) (either (has adm) (both (lacks c) (has adm))) ≡ false }
+    ensures gives { may_give mix.order (adm ∷ []) mix_rule ≡ true }
+    ensures not_given { may_give mix.order (c ∷ []) mix_rule ≡ false }
+    ensures all { HasGivenRoles mix one_admin (adm ∷ c ∷ []) }
+    ensures not_all { ¬ HasGivenRoles mix one_admin (adm ∷ []) }
 {}
 
 /// From two users of adm a run reaches the goal: one of them takes adm from the other and gives it c.
