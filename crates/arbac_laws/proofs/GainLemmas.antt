@@ -71,7 +71,8 @@ held_hit order set (lacks role) h = inl tt
 held_hit order set (both left right) h =
     let b = and_both (may_hold order set left) (may_hold order set right) h in
     all_hit set (conjuncts order left) (conjuncts order right) (held_hit order set left b.0) (held_hit order set right b.1)
-held_hit order set (either left right) h = by_side (or_cases (may_hold order set left) (may_hold order set right) h) (held_hit order set left) (held_hit order set right)
+held_hit order set (either left right) h =
+    by_side (or_cases (may_hold order set left) (may_hold order set right) h) (held_hit order set left) (held_hit order set right)
   where
     by_side : (may_hold order set left ≡ true) ⊎ (may_hold order set right ≡ true) → (may_hold order set left ≡ true → SomeHit set (conjuncts order left))
         → (may_hold order set right ≡ true → SomeHit set (conjuncts order right)) → SomeHit set (conjuncts order (either left right))
@@ -102,7 +103,8 @@ holds order set cond = (held_hit order set cond, hit_held order set cond)
 pub gains_given : (rules : Rules) (profiles : List Profile) (set : List ℕ) → HasGains rules profiles set → HasGivenRoles rules profiles set
 gains_given rules profiles set gains = record { drawn = gains.drawn; given = given }
   where
-    given : (rule : CanAssign) → IsOneOf rules.assign rule → may_give rules.order set rule ≡ true → (role : ℕ) → IsInRange rules.order rule.range role → IsIn set role
+    given : (rule : CanAssign) → IsOneOf rules.assign rule → may_give rules.order set rule ≡ true → (role : ℕ) → IsInRange rules.order rule.range role
+        → IsIn set role
     given rule is gives role range =
         let b = and_both (have_common (seniors_of rules.order rule.admin) set) (may_hold rules.order set (term_of rule.cond)) gives in
         let one = some_item (λ need. HasHits set need.hits) (conjuncts rules.order (term_of rule.cond)) (held_hit rules.order set (term_of rule.cond) b.1) in
@@ -112,10 +114,13 @@ pub given_gains : (rules : Rules) (profiles : List Profile) (set : List ℕ) →
 given_gains rules profiles set all = record { drawn = all.drawn; given = given }
   where
     given : (rule : CanAssign) → IsOneOf rules.assign rule → HaveCommon (seniors_of rules.order rule.admin) set → (conjunct : Need)
-        → IsOneOf (conjuncts rules.order (term_of rule.cond)) conjunct → HasHits set conjunct.hits → (role : ℕ) → IsInRange rules.order rule.range role → IsIn set role
+        → IsOneOf (conjuncts rules.order (term_of rule.cond)) conjunct → HasHits set conjunct.hits → (role : ℕ) → IsInRange rules.order rule.range role
+        → IsIn set role
     given rule is common conjunct at held role range = all.given rule is
-        (both_true (have_common (seniors_of rules.order rule.admin) set) (may_hold rules.order set (term_of rule.cond)) (is_common (seniors_of rules.order rule.admin) set common)
-        (hit_held rules.order set (term_of rule.cond) (some_one_at (λ need. HasHits set need.hits) (conjuncts rules.order (term_of rule.cond)) conjunct at held)))
+        (both_true (have_common (seniors_of rules.order rule.admin) set) (may_hold rules.order set (term_of rule.cond))
+        (is_common (seniors_of rules.order rule.admin) set common)
+        (hit_held rules.order set (term_of rule.cond)
+        (some_one_at (λ need. HasHits set need.hits) (conjuncts rules.order (term_of rule.cond)) conjunct at held)))
         role range
 
 pub same_gains : (rules : Rules) (profiles : List Profile) (set : List ℕ) → HasGains rules profiles set ↔ HasGivenRoles rules profiles set

@@ -19,6 +19,7 @@ pub mod BarrierLemmas
 pub mod GainLemmas
 pub mod RowLemmas
 pub mod SetsLemmas
+pub mod ListingLemmas
 pub mod RecordedLemmas
 pub mod PairLemmas
 pub mod ListingRowLemmas

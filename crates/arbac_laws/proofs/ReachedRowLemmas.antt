@@ -73,7 +73,8 @@ goal_met = record {
   each = each;
 }
   where
-    each : (i : ℕ) (cond : Term) → slice_get (has c ∷ []) i ≡ Some cond → (set : List ℕ) × (slice_get one_given i ≡ Some set) × Satisfies user mix.order.edges set cond
+    each : (i : ℕ) (cond : Term) → slice_get (has c ∷ []) i ≡ Some cond
+        → (set : List ℕ) × (slice_get one_given i ≡ Some set) × Satisfies user mix.order.edges set cond
     each zero cond e =
         let e' : Some (has c) ≡ Some cond = e in
         (c ∷ [], refl, subst (Satisfies user mix.order.edges (c ∷ [])) (same_some (has c) cond e') (c, refl, here))

@@ -3,6 +3,7 @@ pub mod Conjuncts
 pub mod Goals
 pub mod PreImages
 pub mod Obligations
+pub mod Listings
 pub mod Orders
 pub mod NormalForms
 pub mod Closed

@@ -7,6 +7,7 @@ mod closed;
 mod conjuncts;
 mod cover;
 mod goals;
+mod listings;
 mod normal_forms;
 mod orders;
 mod places;
@@ -20,6 +21,7 @@ pub use closed::closed_laws;
 pub use conjuncts::conjunct_laws;
 pub use cover::cover_laws;
 pub use goals::goal_laws;
+pub use listings::listing_laws;
 pub use normal_forms::{form_place_laws, normal_laws};
 pub use orders::order_laws;
 pub use places::{deficient_laws, place_laws};
@@ -27,6 +29,6 @@ pub use pre_images::{backward_laws, forward_laws, obligation_laws};
 pub use recorded::recorded_laws;
 pub use rows::{
     barrier_rows, closed_row, cover_rows, exclusive_rows, form_rows, gain_rows, listing_rows,
-    pair_rows, reached_row, recorded_row, senior_rows, worked_rows,
+    obligation_rows, pair_rows, reached_row, recorded_row, senior_rows, worked_rows,
 };
 pub use sets::set_laws;

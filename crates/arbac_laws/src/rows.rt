@@ -9,6 +9,7 @@ ghost use Rattle.arbac_laws.specs.Conjuncts.{conjuncts};
 ghost use Rattle.arbac_laws.specs.Goals.{goal_requirements};
 ghost use Rattle.arbac_laws.specs.PreImages.{itself, other, fresh};
 ghost use Rattle.arbac_laws.specs.Obligations.{assigns, revokes, obligations, pre_image};
+ghost use Rattle.arbac_laws.specs.Listings.{IsObligation, obligation_before};
 ghost use Rattle.arbac_laws.specs.NormalForms.{normal_form, pre_form, AreFormPlaces};
 ghost use Rattle.arbac_laws.specs.Closed.{IsClosedList};
 ghost use Rattle.arbac_laws.specs.Recorded.{IsRecordedList};
@@ -69,6 +70,17 @@ pub fn listing_rows()
         assigns 1 0 c 0 itself ∷ assigns 1 0 c 0 (other 1) ∷ assigns 1 0 c 0 fresh ∷
         assigns 1 0 c 1 itself ∷ assigns 1 0 c 1 (other 0) ∷ assigns 1 0 c 1 fresh ∷
         revokes 0 d 0 itself ∷ revokes 0 d 0 (other 1) ∷ revokes 0 d 0 fresh ∷ [] }
+{}
+
+/// The first of two users may have to give c to the second, and nobody is another user to itself; d is
+/// taken from whose lacks have it alone. Assignments come first, and a new administrator last.
+pub fn obligation_rows()
+    ensures assigned { IsObligation giver_policy (hits_without c d ∷ hits c ∷ []) (assigns 0 1 c 1 (other 0)) }
+    ensures itself { ¬ IsObligation giver_policy (hits_without c d ∷ hits c ∷ []) (assigns 0 1 c 1 (other 1)) }
+    ensures revoked { IsObligation giver_policy (hits_without c d ∷ hits c ∷ []) (revokes 0 d 0 fresh) }
+    ensures not_barred { ¬ IsObligation giver_policy (hits_without c d ∷ hits c ∷ []) (revokes 0 d 1 fresh) }
+    ensures first { obligation_before (assigns 1 0 c 1 fresh) (revokes 0 d 0 itself) ≡ true }
+    ensures last { obligation_before (assigns 0 0 c 0 fresh) (assigns 0 0 c 0 (other 1)) ≡ false }
 {}
 
 /// Who is above a role counts for it: in a goal, where it is barred, in a range, in a condition and as
