@@ -6,6 +6,7 @@ pub mod TargetLemmas
 pub mod StepLemmas
 pub mod GoalLemmas
 pub mod ClosedLemmas
+pub mod ServeLemmas
 pub mod FlatLemmas
 pub mod ObligationLemmas
 pub mod OrderLemmas
@@ -28,3 +29,4 @@ pub mod BarrierRowLemmas
 pub mod GainRowLemmas
 pub mod RecordedRowLemmas
 pub mod ReachedRowLemmas
+pub mod ServingRowLemmas

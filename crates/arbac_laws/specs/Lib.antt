@@ -7,6 +7,7 @@ pub mod Listings
 pub mod Orders
 pub mod NormalForms
 pub mod Closed
+pub mod Serving
 pub mod Recorded
 pub mod Barriers
 pub mod Rows

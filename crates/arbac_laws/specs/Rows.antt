@@ -1,5 +1,5 @@
 -- Small policies, worked.
-use Rattle.std.specs.Prelude.{ℕ, List, [], ◌∷◌, false, Some, codes}
+use Rattle.std.specs.Prelude.{ℕ, List, [], ◌∷◌, false, Some, None, codes}
 use Rattle.role_order.specs.declared.range.Range.{Range}
 use Rattle.arbac_policy.specs.declared.cond.Cond.TheVariants.{Any, Has, Lacks, Or}
 use Rattle.arbac_policy.specs.declared.profile.Profile.{Profile}
@@ -85,6 +85,10 @@ untidy = record { hits = (c ∷ d ∷ []) ∷ (adm ∷ c ∷ []) ∷ []; lacks =
 -- at most two users start with adm
 abbrev pub two_admins : List Profile
 two_admins = record { set = adm ∷ []; most = Some 2 } ∷ []
+
+-- one user with adm, and any number of others with it
+abbrev pub many_admins : List Profile
+many_admins = record { set = adm ∷ []; most = Some 1 } ∷ record { set = adm ∷ []; most = None } ∷ []
 
 -- what none who are drawn so meet: the goal c, and what must hold before a new user gives it
 abbrev pub mix_entries : List Entry

@@ -14,6 +14,7 @@ mod places;
 mod pre_images;
 mod recorded;
 mod rows;
+mod serving;
 mod sets;
 
 pub use barriers::{barrier_laws, gain_laws};
@@ -29,6 +30,7 @@ pub use pre_images::{backward_laws, forward_laws, obligation_laws};
 pub use recorded::recorded_laws;
 pub use rows::{
     barrier_rows, closed_row, cover_rows, exclusive_rows, form_rows, gain_rows, listing_rows,
-    obligation_rows, pair_rows, reached_row, recorded_row, senior_rows, worked_rows,
+    obligation_rows, pair_rows, reached_row, recorded_row, senior_rows, serving_rows, worked_rows,
 };
+pub use serving::serving_laws;
 pub use sets::set_laws;

@@ -12,9 +12,10 @@ ghost use Rattle.arbac_laws.specs.Obligations.{assigns, revokes, obligations, pr
 ghost use Rattle.arbac_laws.specs.Listings.{IsObligation, obligation_before};
 ghost use Rattle.arbac_laws.specs.NormalForms.{normal_form, pre_form, AreFormPlaces};
 ghost use Rattle.arbac_laws.specs.Closed.{IsClosedList};
+ghost use Rattle.arbac_laws.specs.Serving.{IsServed, Serves, ServesLeast, counts, AreServing, AreUnserved};
 ghost use Rattle.arbac_laws.specs.Recorded.{IsRecordedList};
 ghost use Rattle.arbac_laws.specs.Barriers.{IsCeiling, HasGivenRoles, may_hold, may_give, barriers};
-ghost use Rattle.arbac_laws.specs.Rows.{mix, mix_rule, mix_apart, pair_policy, giver_policy, senior_policy, adm, c, d, one_admin, two_admins, mix_needs, mix_entries};
+ghost use Rattle.arbac_laws.specs.Rows.{mix, mix_rule, mix_apart, pair_policy, giver_policy, senior_policy, adm, c, d, one_admin, two_admins, many_admins, mix_needs, mix_entries};
 ghost use Rattle.arbac_laws.specs.Rows.{hits, hits_either, hits_both, hits_without, without, anyone, untidy};
 
 /// The goal c of a policy where members of adm give c to those without adm, and take adm away: its
@@ -142,6 +143,22 @@ pub fn gain_rows()
 /// From two users of adm a run reaches the goal: one of them takes adm from the other and gives it c.
 pub fn reached_row()
     ensures { IsReachable mix two_admins (has c ∷ []) }
+{}
+
+/// One user of adm serves a need for adm, but not two, nor one for c; of two ways to serve, the one with the
+/// lesser profile is the least; and two users are unserved where there is one.
+pub fn serving_rows()
+    ensures served { IsServed one_admin (hits adm) 0 }
+    ensures not_served { ¬ IsServed one_admin (hits c) 0 }
+    ensures once { Serves one_admin (hits adm ∷ []) (0 ∷ []) }
+    ensures not_twice { ¬ Serves one_admin (hits adm ∷ hits adm ∷ []) (0 ∷ 0 ∷ []) }
+    ensures least { ServesLeast many_admins (hits adm ∷ []) (0 ∷ []) }
+    ensures not_least { ¬ ServesLeast many_admins (hits adm ∷ []) (1 ∷ []) }
+    ensures limited { counts many_admins ≡ Some 1 ∷ None ∷ [] }
+    ensures pairs { AreServing one_admin (hits adm ∷ hits c ∷ []) ((0, 0) ∷ []) }
+    ensures no_pairs { ¬ AreServing one_admin (hits adm ∷ []) [] }
+    ensures unserved { AreUnserved one_admin (hits adm ∷ hits adm ∷ []) (0 ∷ 1 ∷ []) }
+    ensures not_unserved { ¬ AreUnserved one_admin (hits adm ∷ []) (0 ∷ []) }
 {}
 
 /// What two users of adm don't meet at first, recorded with its origins.
