@@ -21,6 +21,7 @@ pub mod GainLemmas
 pub mod RowLemmas
 pub mod SetsLemmas
 pub mod ListingLemmas
+pub mod RelevanceLemmas
 pub mod RecordedLemmas
 pub mod PairLemmas
 pub mod ListingRowLemmas
@@ -30,3 +31,4 @@ pub mod GainRowLemmas
 pub mod RecordedRowLemmas
 pub mod ReachedRowLemmas
 pub mod ServingRowLemmas
+pub mod RelevanceRowLemmas

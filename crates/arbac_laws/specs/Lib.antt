@@ -9,5 +9,6 @@ pub mod NormalForms
 pub mod Closed
 pub mod Serving
 pub mod Recorded
+pub mod Relevance
 pub mod Barriers
 pub mod Rows

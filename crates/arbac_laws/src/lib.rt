@@ -13,6 +13,7 @@ mod orders;
 mod places;
 mod pre_images;
 mod recorded;
+mod relevance;
 mod rows;
 mod serving;
 mod sets;
@@ -28,9 +29,11 @@ pub use orders::order_laws;
 pub use places::{deficient_laws, place_laws};
 pub use pre_images::{backward_laws, forward_laws, obligation_laws};
 pub use recorded::recorded_laws;
+pub use relevance::relevance_laws;
 pub use rows::{
     barrier_rows, closed_row, cover_rows, exclusive_rows, form_rows, gain_rows, listing_rows,
-    obligation_rows, pair_rows, reached_row, recorded_row, senior_rows, serving_rows, worked_rows,
+    obligation_rows, pair_rows, reached_row, recorded_row, relevance_rows, senior_rows,
+    serving_rows, worked_rows,
 };
 pub use serving::serving_laws;
 pub use sets::set_laws;

@@ -14,8 +14,9 @@ ghost use Rattle.arbac_laws.specs.NormalForms.{normal_form, pre_form, AreFormPla
 ghost use Rattle.arbac_laws.specs.Closed.{IsClosedList};
 ghost use Rattle.arbac_laws.specs.Serving.{IsServed, Serves, ServesLeast, counts, AreServing, AreUnserved};
 ghost use Rattle.arbac_laws.specs.Recorded.{IsRecordedList};
+ghost use Rattle.arbac_laws.specs.Relevance.{HasNeed, HasAssign, HasRevoke, IsClosedSlice, IsPart, IsRelevance, IsRelevant, IsDerived};
 ghost use Rattle.arbac_laws.specs.Barriers.{IsCeiling, HasGivenRoles, may_hold, may_give, barriers};
-ghost use Rattle.arbac_laws.specs.Rows.{mix, mix_rule, mix_apart, pair_policy, giver_policy, senior_policy, adm, c, d, one_admin, two_admins, many_admins, mix_needs, mix_entries};
+ghost use Rattle.arbac_laws.specs.Rows.{mix, mix_rule, mix_apart, pair_policy, giver_policy, senior_policy, adm, c, d, one_admin, two_admins, many_admins, mix_needs, mix_entries, mix_revoke, mix_slice, adm_slice};
 ghost use Rattle.arbac_laws.specs.Rows.{hits, hits_either, hits_both, hits_without, without, anyone, untidy};
 
 /// The goal c of a policy where members of adm give c to those without adm, and take adm away: its
@@ -143,6 +144,29 @@ pub fn gain_rows()
 /// From two users of adm a run reaches the goal: one of them takes adm from the other and gives it c.
 pub fn reached_row()
     ensures { IsReachable mix two_admins (has c ∷ []) }
+{}
+
+/// For c both rules matter, adm is wanted of who gives it and barred from who gets it; for adm no rule does.
+/// Where c excludes d, d has to be barred too.
+pub fn relevance_rows()
+    ensures need { HasNeed mix_slice (hits c) }
+    ensures no_need { ¬ HasNeed mix_slice (without c) }
+    ensures assign { HasAssign mix mix_slice 0 mix_rule c }
+    ensures no_assign { ¬ HasAssign mix adm_slice 0 mix_rule c }
+    ensures apart { ¬ HasAssign (mix_apart ((c, d) ∷ [])) mix_slice 0 mix_rule c }
+    ensures revoke { HasRevoke mix mix_slice 0 mix_revoke }
+    ensures no_revoke { ¬ HasRevoke mix adm_slice 0 mix_revoke }
+    ensures closed { IsClosedSlice mix (has c ∷ []) mix_slice }
+    ensures not_closed { ¬ IsClosedSlice mix (has c ∷ []) adm_slice }
+    ensures part { IsPart adm_slice mix_slice }
+    ensures no_part { ¬ IsPart mix_slice adm_slice }
+    ensures least { IsRelevance mix (has c ∷ []) mix_slice }
+    ensures least_of_adm { IsRelevance mix (has adm ∷ []) adm_slice }
+    ensures not_least { ¬ IsRelevance mix (has adm ∷ []) mix_slice }
+    ensures rule { IsRelevant mix_slice (assigns 0 0 c 0 fresh) }
+    ensures no_rule { ¬ IsRelevant adm_slice (assigns 0 0 c 0 fresh) }
+    ensures derived { IsDerived mix (has c ∷ []) (without adm ∷ hits adm ∷ []) }
+    ensures not_derived { ¬ IsDerived mix (has adm ∷ []) (hits c ∷ []) }
 {}
 
 /// One user of adm serves a need for adm, but not two, nor one for c; of two ways to serve, the one with the
