@@ -1,0 +1,4 @@
+pub mod Candidates
+pub mod Beats
+pub mod Rounds
+pub mod Plans
