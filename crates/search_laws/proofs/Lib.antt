@@ -1,2 +1,4 @@
 pub mod DecideLemmas
 pub mod BeatLemmas
+pub mod CandidateLemmas
+pub mod RoundLemmas
