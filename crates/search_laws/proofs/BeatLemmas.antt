@@ -1,11 +1,11 @@
 -- Beating is a strict order on normal forms, so what is beaten is beaten by one that is unbeaten.
-use Rattle.std.proofs.Common.{ℕ, ◌≡◌, ◌<◌, List, [], ◌∷◌, None, Some, Option, true, length, refl, arith, zero, suc, sym, ◌∙◌, ap, subst, inl, inr}
+use Rattle.std.proofs.Common.{ℕ, ◌≡◌, ◌<◌, List, None, Some, Option, length, refl, arith, zero, suc, sym, ◌∙◌, ap, subst, inl, inr}
 use Rattle.std.specs.Prelude.{◌⊎◌, slice_get}
-use Rattle.list_words.specs.Lists.{Each, IsOneOf, Some_of}
-use Rattle.list_words.specs.Orders.{AreRising, IsStrictOrder}
+use Rattle.list_words.specs.Lists.{Each, Some_of}
+use Rattle.list_words.specs.Orders.{IsStrictOrder}
 use Rattle.list_words.proofs.GetLemmas.{get_below, get_there, same_some}
 use Rattle.list_words.proofs.NumberLemmas.{compare}
-use Rattle.list_words.proofs.EachLemmas.{each_at, each_own, each_weaker, same_one_of, some_weaker}
+use Rattle.list_words.proofs.EachLemmas.{each_at, each_weaker, same_one_of, some_weaker}
 use Rattle.list_words.proofs.EmbedLemmas.{embeds_itself}
 use Rattle.list_words.proofs.OrderLemmas.{AreIn, rising_same}
 use Rattle.arbac_laws.specs.Needs.{Covers, CoversNeed, IsCovered, Need}
@@ -15,7 +15,7 @@ use Rattle.arbac_laws.proofs.CoverLemmas.{covers_itself, covers_transitive}
 use Rattle.arbac_laws.proofs.OrderLemmas.{requirement_order}
 use Rattle.arbac_laws.proofs.SameLemmas.{same_needs}
 use Rattle.search_laws.specs.Beats.{ArePart, AreUnbeaten, Beats, IsUnbeaten, MayLeaveOut, entry_before}
-use Rattle.search_laws.proofs.DecideLemmas.{Decided, covered_decided, covers_decided, same_decided}
+use Rattle.search_laws.proofs.DecideLemmas.{Decided, covers_decided, same_decided}
 
 -- entries in normal form
 abbrev pub AreNormal : List Entry → Type 0

@@ -1,9 +1,9 @@
 -- What the candidates of a round are, and that they are in normal form.
-use Rattle.std.proofs.Common.{ℕ, ◌≡◌, ◌<◌, ◌≤◌, ◌+◌, ◌-◌, List, [], ◌∷◌, ◌++◌, None, Some, Option, length, take, drop, refl, arith, zero, suc, sym, ◌∙◌, ap, subst, inl, inr}
+use Rattle.std.proofs.Common.{ℕ, ◌≡◌, ◌<◌, ◌≤◌, ◌+◌, ◌-◌, List, [], ◌∷◌, None, Some, Option, take, drop, refl, arith, zero, suc, sym, ◌∙◌, ap, subst}
 use Rattle.std.specs.Prelude.{slice_get}
 use Rattle.list_words.specs.Lists.{Each, IsOneOf}
-use Rattle.list_words.proofs.GetLemmas.{get_take, get_taken, same_some}
-use Rattle.list_words.proofs.EachLemmas.{each_append, each_at, each_left, each_right, each_weaker}
+use Rattle.list_words.proofs.GetLemmas.{get_take, get_taken}
+use Rattle.list_words.proofs.EachLemmas.{each_append, each_at, each_left, each_right}
 use Rattle.arbac_policy.specs.Truth.{Term}
 use Rattle.arbac_policy.specs.Rules.{Rules}
 use Rattle.arbac_laws.specs.Goals.{goal_requirements}

@@ -2,3 +2,5 @@ pub mod DecideLemmas
 pub mod BeatLemmas
 pub mod CandidateLemmas
 pub mod RoundLemmas
+pub mod OutcomeLemmas
+pub mod PlanLemmas

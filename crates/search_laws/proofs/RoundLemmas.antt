@@ -1,5 +1,5 @@
 -- What a round keeps, and that a search has one outcome.
-use Rattle.std.proofs.Common.{ℕ, ◌≡◌, ◌<◌, ◌≤◌, ◌+◌, List, [], ◌∷◌, ◌++◌, map, length, min, refl, arith, zero, suc, sym, ◌∙◌, ap, subst, inl, inr}
+use Rattle.std.proofs.Common.{ℕ, ◌≡◌, ◌<◌, ◌≤◌, ◌+◌, List, [], ◌∷◌, ◌++◌, length, min, refl, arith, zero, suc, sym, ◌∙◌, ap, subst, inl, inr}
 use Rattle.std.specs.Prelude.{◌⊎◌, slice_get, Some}
 use Rattle.std.proofs.lemmas.List.{append-nil, append_assoc}
 use Rattle.std.proofs.Math.Nat.{min-eq_left, min-eq_right}
@@ -11,9 +11,8 @@ use Rattle.arbac_policy.specs.declared.profile.Profile.{Profile}
 use Rattle.arbac_laws.specs.Closed.{IsUnmet}
 use Rattle.arbac_laws.specs.Needs.{Covers, IsCovered, Need}
 use Rattle.arbac_laws.specs.Recorded.{Entry}
-use Rattle.search_laws.specs.Beats.{IsUnbeaten}
 use Rattle.search_laws.specs.Candidates.{batch, goal_candidates, needs_in, next_candidates}
-use Rattle.search_laws.specs.Rounds.{ComesTo, Continues, IsMet, IsOutcome, Outcome, Round, Search, Walk, Walks, closed, ends, found, full, goes_on}
+use Rattle.search_laws.specs.Rounds.{ComesTo, Continues, IsMet, IsOutcome, Outcome, Round, Search, Walk, Walks, ends, found, full, goes_on}
 use Rattle.search_laws.proofs.DecideLemmas.{Decided, covered_decided}
 use Rattle.search_laws.proofs.BeatLemmas.{AreNormal, one_unbeaten, unbeaten_covers}
 

@@ -1,5 +1,5 @@
 -- The candidates of a round of the search, in the order of their origins.
-use Rattle.std.specs.Prelude.{ℕ, List, [], ◌∷◌, ◌++◌, map, take, drop, Option, Some, None}
+use Rattle.std.specs.Prelude.{ℕ, List, [], ◌∷◌, map, take, drop, Option, Some, None}
 use Rattle.arbac_policy.specs.Truth.{Term}
 use Rattle.arbac_policy.specs.Rules.{Rules}
 use Rattle.arbac_laws.specs.Needs.{Need}
