@@ -4,3 +4,4 @@ pub mod CandidateLemmas
 pub mod RoundLemmas
 pub mod OutcomeLemmas
 pub mod PlanLemmas
+pub mod RowLemmas

@@ -2,3 +2,4 @@ pub mod Candidates
 pub mod Beats
 pub mod Rounds
 pub mod Plans
+pub mod Rows
