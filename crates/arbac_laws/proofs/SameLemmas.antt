@@ -15,7 +15,7 @@ use Rattle.list_words.proofs.CountLemmas.{counted, count}
 use Rattle.arbac_laws.proofs.CoverLemmas.{covers_itself, covers_need}
 use Rattle.list_words.proofs.EachLemmas.{each_own, each_some, each_weaker, some_each}
 use Rattle.arbac_laws.proofs.OrderLemmas.{need_order}
-use Rattle.list_words.proofs.OrderLemmas.{AreIn, is_same, rising_same, same_itself, sorted_same}
+use Rattle.list_words.proofs.OrderLemmas.{AreIn, is_same, rising_same, same_itself, sorted_same, total_strict}
 use Rattle.role_order.proofs.OrderLemmas.{set_order}
 use Rattle.arbac_laws.proofs.RoleLemmas.{cases_in, in_less}
 use Rattle.role_order.specs.Roles.{Rises}
@@ -135,7 +135,7 @@ hit_is_hit a b m n f g =
 
 pub same_need : (a b : Need) → IsNormalNeed a → IsNormalNeed b → CoversNeed a b → CoversNeed b a → a ≡ b
 same_need a b m n f g =
-    let hits : a.hits ≡ b.hits = rising_same set_before set_order a.hits b.hits m.sorted n.sorted (hit_is_hit a b m n f g) (hit_is_hit b a n m g f) in
+    let hits : a.hits ≡ b.hits = rising_same set_before (total_strict set_before set_order) a.hits b.hits m.sorted n.sorted (hit_is_hit a b m n f g) (hit_is_hit b a n m g f) in
     let lacks : a.lacks ≡ b.lacks = same_roles a.lacks b.lacks m.lacks n.lacks f.lacks g.lacks in
     ap (λ (h : List (List ℕ)). let c : Need = record { hits = h; lacks = a.lacks } in c) hits ∙ ap (λ (l : List ℕ). let c : Need = record { hits = b.hits; lacks = l } in c) lacks
 

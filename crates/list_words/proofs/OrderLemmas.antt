@@ -3,7 +3,7 @@ use Rattle.std.proofs.Common.{ℕ, ◌≡◌, ◌<◌, ◌+◌, ◌||◌, ◌&&�
 use Rattle.std.specs.Prelude.{◌⊎◌, nat_lt}
 use Rattle.std.proofs.lemmas.Bool.Decides.{nat_tests}
 use Rattle.list_words.specs.Lists.{Each, Some_of}
-use Rattle.list_words.specs.Orders.{list_before, IsTotalOrder, AreRising, AreSorted}
+use Rattle.list_words.specs.Orders.{list_before, IsStrictOrder, IsTotalOrder, AreRising, AreSorted}
 use Rattle.list_words.proofs.TestLemmas.{or_cases, or_right, and_both, not_false, not_true}
 use Rattle.list_words.proofs.EachLemmas.{each_weaker, some_each}
 use Rattle.list_words.proofs.CountLemmas.{count, none_counted}
@@ -94,7 +94,11 @@ list_order {A} before o = record { never = never; through = through; total = tot
 abbrev pub AreIn : {A : Type 0} → List A → List A → Type 0
 AreIn {A} xs ys = Each (λ x. Some_of (λ (y : A). y ≡ x) ys) xs
 
-pub rising_same : {A : Type 0} (before : A → A → Bool) → IsTotalOrder before → (xs ys : List A) → AreRising before xs → AreRising before ys → AreIn xs ys → AreIn ys xs → xs ≡ ys
+pub total_strict : {A : Type 0} (before : A → A → Bool) → IsTotalOrder before → IsStrictOrder before
+total_strict before o = record { never = o.never; through = o.through }
+
+-- rising lists with the same items are one
+pub rising_same : {A : Type 0} (before : A → A → Bool) → IsStrictOrder before → (xs ys : List A) → AreRising before xs → AreRising before ys → AreIn xs ys → AreIn ys xs → xs ≡ ys
 rising_same before o [] [] r s h k = refl
 rising_same before o [] (y ∷ ys) r s h k = absurd k.0
 rising_same before o (x ∷ xs) [] r s h k = absurd h.0
@@ -119,7 +123,7 @@ rising_same {A} before o (x ∷ xs) (y ∷ ys) r s h k =
     by_heads : (y ≡ x) ⊎ (before y x ≡ true) → (x ≡ y) ⊎ (before x y ≡ true) → x ≡ y
     by_heads (inl e) b = sym e
     by_heads (inr a) (inl e) = e
-    by_heads (inr a) (inr b) = absurd (not_both before o x y b a)
+    by_heads (inr a) (inr b) = absurd (o.never x (o.through x y x b a))
 
     heads : x ≡ y
     heads = by_heads (later x y ys s.0 h.0) (later y x xs r.0 k.0)

@@ -1,0 +1,7 @@
+pub mod DecideLemmas
+pub mod BeatLemmas
+pub mod CandidateLemmas
+pub mod RoundLemmas
+pub mod OutcomeLemmas
+pub mod PlanLemmas
+pub mod RowLemmas
