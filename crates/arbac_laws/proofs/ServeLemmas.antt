@@ -10,10 +10,11 @@ use Rattle.arbac_laws.specs.Closed.{IsUnmet}
 use Rattle.list_words.proofs.CountLemmas.{counted, count}
 use Rattle.list_words.proofs.PlaceLemmas.{told, length-told, get-told}
 use Rattle.hall_match.proofs.CountLemmas.{count-cons}
+use Rattle.hall_match.specs.Matchings.{capacity_at, uses, IsBefore, IsMatching, IsLeast, IsDeficient}
 use Rattle.hall_match.proofs.LawLemmas.{deficient}
-use Rattle.hall_match.specs.Matchings.{AreEdges, capacity_at, uses, IsBefore, IsMatching, IsLeast, IsDeficient}
 use Rattle.std.proofs.lemmas.List.{get_or-take}
 use Rattle.list_words.proofs.NumberLemmas.{compare}
+use Rattle.hall_match.specs.Joined.{AreJoined, JoinsAt, OfPairs}
 use Rattle.arbac_laws.specs.Serving.{IsServed, Serves, ServesLeast, counts, AreServing, AreUnserved}
 
 -- lists
@@ -26,8 +27,7 @@ length_counts [] = refl
 length_counts (p ∷ ps) = ap suc (length_counts ps)
 
 -- the capacity of a profile's place is its count
-capacity_there : (profiles : List Profile) (place : ℕ) (profile : Profile) → slice_get profiles place ≡ Some profile
-    → capacity_at (counts profiles) place ≡ profile.most
+capacity_there : (profiles : List Profile) (place : ℕ) (profile : Profile) → slice_get profiles place ≡ Some profile → capacity_at (counts profiles) place ≡ profile.most
 capacity_there [] place profile is = cc
 capacity_there (p ∷ ps) zero profile is = let is' : Some p ≡ Some profile = is in let same : p ≡ profile = cc in ap (λ (q : Profile). q.most) same
 capacity_there (p ∷ ps) (suc place) profile is = capacity_there ps place profile is
@@ -47,28 +47,20 @@ count_times : (place : ℕ) (list : List ℕ) → count (λ given. given == plac
 count_times place [] = refl
 count_times place (x ∷ xs) = ap (λ n. cond (x == place) 1 0 + n) (count_times place xs)
 
--- pairs within the lists are all pairs
-pub pairs_serving : (profiles : List Profile) (needs : List Need) (pairs : List (ℕ × ℕ)) (items places : ℕ) → items ≡ length needs → places ≡ length profiles
-    → ((k u : ℕ) → Contains pairs (k, u) ↔ ((k < items) × (u < places) × ((need : Need) × (slice_get needs k ≡ Some need) × IsServed profiles need u)))
+-- the user requirements and the profiles that serve them
+abbrev pub ServedAt : List Profile → List Need → ℕ → ℕ → Type 0
+ServedAt profiles needs = JoinsAt (λ (need : Need) (profile : Profile). MeetsNeed need profile.set) needs profiles
+
+-- the joined pairs are the serving ones
+pub pairs_serving : (profiles : List Profile) (needs : List Need) (pairs : List (ℕ × ℕ)) → AreJoined (ServedAt profiles needs) (length needs) (length (counts profiles)) pairs
     → AreServing profiles needs pairs
-pairs_serving profiles needs pairs items places here there within k u = (λ h. ((within k u).0 h).2, from)
+pairs_serving profiles needs pairs joined k u = (λ h. let one = ((joined k u).0 h).2 in (one.0, one.2, (one.1, one.3, one.4)), from)
   where
     from : ((need : Need) × (slice_get needs k ≡ Some need) × IsServed profiles need u) → Contains pairs (k, u)
     from h =
-        let less : k < items = omega (arith, here, (get_within needs k h.0 h.1).0) in
-        let below : u < places = omega (arith, there, (get_within profiles u h.2.0 h.2.1).0) in
-        (within k u).1 (less, below, h)
-
--- the pairs are edges of a matching problem
-pub serving_edges : (profiles : List Profile) (needs : List Need) (pairs : List (ℕ × ℕ)) → AreServing profiles needs pairs
-    → AreEdges (length needs) (counts profiles) pairs
-serving_edges profiles needs pairs are k d l =
-    let pair : ℕ × ℕ = get_or pairs k d in
-    let there : Contains pairs pair = (k, l, get_any pairs k pair d l) in
-    let met = (are pair.0 pair.1).0 there in (
-      (get_within needs pair.0 met.0 met.1).0,
-      subst (λ n. pair.1 < n) (sym (length_counts profiles)) (get_within profiles pair.1 met.2.0 met.2.1).0,
-    )
+        let less = (get_within needs k h.0 h.1).0 in
+        let below = (get_within profiles u h.2.0 h.2.1).0 in
+        (joined k u).1 (less, subst (λ n. u < n) (sym (length_counts profiles)) below, (h.0, h.2.0, h.1, h.2.1, h.2.2))
 
 -- a matching of the pairs is a choice that serves the requirement
 pub matching_serves : (profiles : List Profile) (needs : List Need) (pairs : List (ℕ × ℕ)) (list : List ℕ) → AreServing profiles needs pairs
@@ -104,22 +96,22 @@ serves_matching profiles needs pairs list are s = record { whole = s.long; neigh
     within place most e = let p = capacity_from profiles place most e in omega (arith, uses_times place list, s.drawn.few place p.0 most p.1 p.2)
 
 -- the least matching is the least choice
-pub least_serves : (profiles : List Profile) (needs : List Need) (pairs : List (ℕ × ℕ)) (list : List ℕ) → AreServing profiles needs pairs
-    → IsLeast (length needs) (counts profiles) pairs list → ServesLeast profiles needs list
-least_serves profiles needs pairs list are m = record {
-  serves = matching_serves profiles needs pairs list are m.matching;
-  least = λ other serves. m.least other (serves_matching profiles needs pairs other are serves);
-}
+pub least_serves : (profiles : List Profile) (needs : List Need) (list : List ℕ)
+    → OfPairs (ServedAt profiles needs) (length needs) (length (counts profiles)) (λ pairs. IsLeast (length needs) (counts profiles) pairs list)
+    → ServesLeast profiles needs list
+least_serves profiles needs list (pairs, joined, m) =
+    let are = pairs_serving profiles needs pairs joined in record {
+      serves = matching_serves profiles needs pairs list are m.matching;
+      least = λ other serves. m.least other (serves_matching profiles needs pairs other are serves);
+    }
 
 -- users and the places that they are drawn from
 
-drawn_users : (profiles : List Profile) (choice : List ℕ)
-    → ((k place : ℕ) → slice_get choice k ≡ Some place → (profile : Profile) × (slice_get profiles place ≡ Some profile))
+drawn_users : (profiles : List Profile) (choice : List ℕ) → ((k place : ℕ) → slice_get choice k ≡ Some place → (profile : Profile) × (slice_get profiles place ≡ Some profile))
     → (users : List (List ℕ)) × AreUsers profiles choice users
 drawn_users profiles [] places = ([], tt)
 drawn_users profiles (p ∷ ps) places =
-    let one = places 0 p refl in let rest = drawn_users profiles ps (λ k place is. places (suc k) place is) in
-    (one.0.set ∷ rest.0, ((one.0, one.1, refl), rest.1))
+    let one = places 0 p refl in let rest = drawn_users profiles ps (λ k place is. places (suc k) place is) in (one.0.set ∷ rest.0, ((one.0, one.1, refl), rest.1))
 
 user_at : (profiles : List Profile) (choice : List ℕ) (users : List (List ℕ)) → AreUsers profiles choice users → (i place : ℕ) (profile : Profile)
     → slice_get choice i ≡ Some place → slice_get profiles place ≡ Some profile → slice_get users i ≡ Some profile.set
@@ -133,8 +125,7 @@ user_at profiles (p ∷ ps) (u ∷ us) are zero place profile at is =
     ap Some (are.0.2 ∙ ap (λ (q : Profile). q.set) same)
 user_at profiles (p ∷ ps) (u ∷ us) are (suc i) place profile at is = user_at profiles ps us are.1 i place profile at is
 
-place_at : (profiles : List Profile) (choice : List ℕ) (users : List (List ℕ)) → AreUsers profiles choice users → (i : ℕ) (set : List ℕ)
-    → slice_get users i ≡ Some set
+place_at : (profiles : List Profile) (choice : List ℕ) (users : List (List ℕ)) → AreUsers profiles choice users → (i : ℕ) (set : List ℕ) → slice_get users i ≡ Some set
     → (place : ℕ) × (slice_get choice i ≡ Some place) × (profile : Profile) × (slice_get profiles place ≡ Some profile) × (set ≡ profile.set)
 place_at profiles [] [] are i set is = cc
 place_at profiles [] (u ∷ us) are i set is = absurd are
@@ -205,21 +196,22 @@ drawn_serves profiles needs users drawn met = record { drawn = record { places =
     few : (place : ℕ) (profile : Profile) (most : ℕ) → slice_get profiles place ≡ Some profile → profile.most ≡ Some most → times place list ≤ most
     few place profile most is e =
         let fewer : count (λ given. given == place) list ≤ count (λ given. given == place) drawn.choice =
-        counted (λ (x y : ℕ). x ≡ y) (λ given. given == place) (λ given. given == place)
-        (λ x y same h. subst (λ n. (n == place) ≡ true) same h) list drawn.choice into in
+        counted (λ (x y : ℕ). x ≡ y) (λ given. given == place) (λ given. given == place) (λ x y same h. subst (λ n. (n == place) ≡ true) same h) list drawn.choice into in
         omega (arith, fewer, count_times place list, count_times place drawn.choice, drawn.drawn.few place profile most is e)
 
 -- where the pairs have no matching, no drawn users meet the requirement
-pub none_unmet : (profiles : List Profile) (needs : List Need) (pairs : List (ℕ × ℕ)) → AreServing profiles needs pairs
-    → ((list : List ℕ) → ¬ IsMatching (length needs) (counts profiles) pairs list) → IsUnmet profiles needs
-none_unmet profiles needs pairs are none users drawn met =
-    let list = told (λ i. get_or drawn.choice (met.to i) 0) (length needs) in none list
-    (serves_matching profiles needs pairs list are (drawn_serves profiles needs users drawn met))
+pub none_unmet : (profiles : List Profile) (needs : List Need)
+    → OfPairs (ServedAt profiles needs) (length needs) (length (counts profiles)) (λ pairs. (list : List ℕ) → ¬ IsMatching (length needs) (counts profiles) pairs list)
+    → IsUnmet profiles needs
+none_unmet profiles needs (pairs, joined, none) users drawn met =
+    let list = told (λ i. get_or drawn.choice (met.to i) 0) (length needs) in
+    none list (serves_matching profiles needs pairs list (pairs_serving profiles needs pairs joined) (drawn_serves profiles needs users drawn met))
 
 -- a deficient set of the pairs is user requirements that the profiles can't serve together
-pub deficient_unserved : (profiles : List Profile) (needs : List Need) (pairs : List (ℕ × ℕ)) (items : List ℕ) → AreServing profiles needs pairs
-    → IsDeficient (length needs) (counts profiles) pairs items → AreUnserved profiles needs items
-deficient_unserved profiles needs pairs items are d = (pairs, are, d)
+pub deficient_unserved : (profiles : List Profile) (needs : List Need) (items : List ℕ)
+    → OfPairs (ServedAt profiles needs) (length needs) (length (counts profiles)) (λ pairs. IsDeficient (length needs) (counts profiles) pairs items)
+    → AreUnserved profiles needs items
+deficient_unserved profiles needs items (pairs, joined, d) = (pairs, pairs_serving profiles needs pairs joined, d)
 
 -- some drawn users meet the requirement exactly where some choice serves it
 pub drawn_served : (profiles : List Profile) (needs : List Need)
@@ -243,8 +235,9 @@ unmet_unserved profiles needs = (
 
 -- user requirements that are more than who serves them are met by no drawn users
 pub unserved_unmet : (profiles : List Profile) (needs : List Need) (items : List ℕ) → AreUnserved profiles needs items → IsUnmet profiles needs
-unserved_unmet profiles needs items u =
-    none_unmet profiles needs u.0 u.1 (λ list. deficient (length needs) (counts profiles) u.0 items list u.2)
+unserved_unmet profiles needs items u users drawn met =
+    let list = told (λ i. get_or drawn.choice (met.to i) 0) (length needs) in
+    deficient (length needs) (counts profiles) u.0 items list u.2 (serves_matching profiles needs u.0 list u.1 (drawn_serves profiles needs users drawn met))
 
 -- of two lists at most one is before the other
 pub before_once : (first second : List ℕ) → IsBefore first second → IsBefore second first → ⊥

@@ -5,8 +5,8 @@ ghost use Rattle.arbac_policy.specs.Goals.{AreUsers};
 ghost use Rattle.arbac_laws.specs.Needs.{MeetsNeed, MeetsBy};
 ghost use Rattle.arbac_laws.specs.Closed.{IsUnmet};
 ghost use Rattle.hall_match.specs.Joined.{JoinsAt};
-ghost use Rattle.req_core.specs.Serving as serving;
-ghost use Rattle.req_core.specs.Serving.{ServesLeast, AreUnserved};
+ghost use Rattle.arbac_laws.specs.Serving as serving;
+ghost use Rattle.arbac_laws.specs.Serving.{ServesLeast, AreUnserved};
 ghost use Rattle.req_core.specs.Answers.{IfChoice, IfApart};
 
 use crate::answers::Met;
