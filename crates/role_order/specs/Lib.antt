@@ -1,7 +1,8 @@
 pub mod Lists
 pub mod Roles
 pub mod Orders
-pub mod Places
+pub mod Masks
+pub mod MasksBack
 pub mod Names
 pub mod Graph
 pub mod Reach
