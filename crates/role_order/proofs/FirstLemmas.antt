@@ -6,9 +6,10 @@ use Rattle.std.proofs.lemmas.Bool.{ne_eqb, eq-eqb, eqb-true, false≢true}
 use Rattle.std.proofs.lemmas.Bool.Decides.{nat_tests}
 use Rattle.role_order.specs.Orders.{set_before}
 use Rattle.role_order.specs.Roles.{has_role, without_role, first_from, differ, Rises, IsFirstFrom}
-use Rattle.role_order.specs.Lists.{Each}
-use Rattle.role_order.proofs.SetLemmas.{has_role-above, has_role-below, has_role-filter, rises-filter, each_weaker, or_right, same_set, same_test}
-use Rattle.role_order.proofs.OrderLemmas.{set_order, not_both, not_false}
+use Rattle.role_order.proofs.SetLemmas.{has_role-above, has_role-below, has_role-filter, rises-filter, same_set}
+use Rattle.role_order.proofs.OrderLemmas.{set_order}
+use Rattle.list_words.proofs.TestLemmas.{same_test, not_false}
+use Rattle.list_words.proofs.OrderLemmas.{not_both}
 
 -- each item passes where none is left that fails
 pub list_all-none_fails : (p : ℕ → Bool) (xs : List ℕ) → filter (λ x. not (p x)) xs ≡ [] → list_all p xs ≡ true

@@ -16,7 +16,8 @@ use Rattle.role_order.specs.Reach.{count_up}
 use Rattle.role_order.specs.Roles.{has_role, with_role, without_role, less_roles, common_roles, join_roles, Rises, IsFirstFrom, IsRoleSet}
 use Rattle.role_order.specs.Masks.{has_bit, is_held, held_roles, low_of, high_of, AreMasks, IsNextBit}
 use Rattle.role_order.specs.MasksBack.{bit_cases, has_bit_of_one, has_bit_of_zero, has_role-held_roles, low_back, high_back}
-use Rattle.role_order.proofs.SetLemmas.{has_role-filter, has_role-count_up, has_role-with_role, has_role-join_roles, rises-with_role, rises-join_roles, rises-filter, rises-count_up, same_set, same_test, and_both}
+use Rattle.role_order.proofs.SetLemmas.{has_role-filter, has_role-count_up, has_role-with_role, has_role-join_roles, rises-with_role, rises-join_roles, rises-filter, rises-count_up, same_set}
+use Rattle.list_words.proofs.TestLemmas.{same_test, not_false}
 
 pub bit_of_true : (mask k : ℕ) → has_bit mask k ≡ true → bit_at mask k ≡ 1
 unfolding has_bit
@@ -217,10 +218,6 @@ turned_or false false = refl
 and_true : (b : Bool) → (b && true) ≡ b
 and_true true = refl
 and_true false = refl
-
-not_false : (b : Bool) → (b ≡ true → ⊥) → b ≡ false
-not_false true h = absurd (h refl)
-not_false false h = refl
 
 turned_test : (a b : ℕ) → eqb a b ≡ eqb b a
 turned_test a b = same_test (eqb a b) (eqb b a) (λ s. let d : a ≡ b = eqb-true a b s in eq-eqb b a (sym d)) (λ s. let d : b ≡ a = eqb-true b a s in eq-eqb a b (sym d))
