@@ -1,6 +1,7 @@
 pub mod Roles
 pub mod Orders
-pub mod Places
+pub mod Masks
+pub mod MasksBack
 pub mod Names
 pub mod Graph
 pub mod Reach
