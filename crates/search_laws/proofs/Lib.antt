@@ -5,3 +5,6 @@ pub mod RoundLemmas
 pub mod OutcomeLemmas
 pub mod PlanLemmas
 pub mod RowLemmas
+pub mod MonotonyLemmas
+pub mod AdminLemmas
+pub mod AlikeLemmas

@@ -315,8 +315,12 @@ mix_closed = record {
   walk = goes_on (goal_entry ∷ []);
   first = first_round one_admin 4096 (refl, tt) (λ e. omega (arith, e));
   rounds = 3;
-  rest = inr (omega arith, goes_on mix_entries, second_round one_admin (refl, tt),
-      inr (omega arith, goes_on three_entries, third_round_kept, inr (omega arith, goes_on three_entries, fourth_round, (refl, refl))));
+  rest = inr (
+    omega arith,
+    goes_on mix_entries,
+    second_round one_admin (refl, tt),
+    inr (omega arith, goes_on three_entries, third_round_kept, inr (omega arith, goes_on three_entries, fourth_round, (refl, refl))),
+  );
 }
 
 pub mix_full : IsOutcome (mix_search two_admins 1) (full (goal_entry ∷ []) given_entry)
@@ -355,11 +359,15 @@ taken_before = refl
 pub taken_plan : (to : ℕ → ℕ) → Plans mix mix_entries taken_entry to (
     record { kind = Weak; admin = to 1; target = to 0; role = adm } ∷ record { kind = Assign; admin = to 1; target = to 0; role = c } ∷ [])
 taken_plan to = (
-  given_entry, revokes 0 adm 0 (other 1), 0 ∷ 1 ∷ [],
+  given_entry,
+  revokes 0 adm 0 (other 1),
+  0 ∷ 1 ∷ [],
   record { number = 1; origin = refl; parent_is = refl; raw = anyone ∷ hits_both adm adm ∷ []; raw_is = taken_before; stand = are_places (anyone ∷ hits_both adm adm ∷ []) },
   refl,
   (
-    goal_entry, assigns 0 0 c 0 fresh, 0 ∷ 1 ∷ [],
+    goal_entry,
+    assigns 0 0 c 0 fresh,
+    0 ∷ 1 ∷ [],
     record { number = 0; origin = refl; parent_is = refl; raw = without adm ∷ hits adm ∷ []; raw_is = first_before; stand = are_places (without adm ∷ hits adm ∷ []) },
     refl,
     (0, refl),

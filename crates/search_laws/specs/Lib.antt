@@ -3,3 +3,4 @@ pub mod Beats
 pub mod Rounds
 pub mod Plans
 pub mod Rows
+pub mod Pruning
