@@ -135,7 +135,8 @@ hit_is_hit a b m n f g =
 
 pub same_need : (a b : Need) → IsNormalNeed a → IsNormalNeed b → CoversNeed a b → CoversNeed b a → a ≡ b
 same_need a b m n f g =
-    let hits : a.hits ≡ b.hits = rising_same set_before (total_strict set_before set_order) a.hits b.hits m.sorted n.sorted (hit_is_hit a b m n f g) (hit_is_hit b a n m g f) in
+    let strict = total_strict set_before set_order in
+    let hits : a.hits ≡ b.hits = rising_same set_before strict a.hits b.hits m.sorted n.sorted (hit_is_hit a b m n f g) (hit_is_hit b a n m g f) in
     let lacks : a.lacks ≡ b.lacks = same_roles a.lacks b.lacks m.lacks n.lacks f.lacks g.lacks in
     ap (λ (h : List (List ℕ)). let c : Need = record { hits = h; lacks = a.lacks } in c) hits ∙ ap (λ (l : List ℕ). let c : Need = record { hits = b.hits; lacks = l } in c) lacks
 

@@ -94,11 +94,13 @@ list_order {A} before o = record { never = never; through = through; total = tot
 abbrev pub AreIn : {A : Type 0} → List A → List A → Type 0
 AreIn {A} xs ys = Each (λ x. Some_of (λ (y : A). y ≡ x) ys) xs
 
+-- a total order is strict
 pub total_strict : {A : Type 0} (before : A → A → Bool) → IsTotalOrder before → IsStrictOrder before
 total_strict before o = record { never = o.never; through = o.through }
 
 -- rising lists with the same items are one
-pub rising_same : {A : Type 0} (before : A → A → Bool) → IsStrictOrder before → (xs ys : List A) → AreRising before xs → AreRising before ys → AreIn xs ys → AreIn ys xs → xs ≡ ys
+pub rising_same : {A : Type 0} (before : A → A → Bool) → IsStrictOrder before → (xs ys : List A) → AreRising before xs → AreRising before ys
+    → AreIn xs ys → AreIn ys xs → xs ≡ ys
 rising_same before o [] [] r s h k = refl
 rising_same before o [] (y ∷ ys) r s h k = absurd k.0
 rising_same before o (x ∷ xs) [] r s h k = absurd h.0

@@ -17,6 +17,7 @@ use Rattle.search_laws.proofs.MonotonyLemmas.{Along, along_itself, covers_along,
 pub free_covers : (need : Need) (hit : List ℕ) → HasHitWithin hit need → CoversNeed (add_hit hit need) need
 free_covers need hit h = record { hits = (h, (covers_itself need).hits); lacks = λ role k. k }
 
+-- a hit added where one lies within it already: each user still covers the one at its place
 pub change_free : (xs : List Need) (k : ℕ) (x : Need) (hit : List ℕ) → slice_get xs k ≡ Some x → HasHitWithin hit x → Along (change_at k (add_hit hit) xs) xs
 change_free [] k x hit at h = tt
 change_free (y ∷ ys) zero x hit at h = let same : x ≡ y = cc in (free_covers y hit (subst (HasHitWithin hit) same h), along_itself ys)
@@ -28,33 +29,43 @@ free_admin needs target hit itself free = covers_along (change_at target (add_hi
 free_admin needs target hit (other place) free = covers_along (change_at place (add_hit hit) needs) needs (change_free needs place free.0 hit free.1 free.2)
 free_admin needs target hit fresh free = absurd free
 
+-- who is an administrator already has the pre-image that covers those of all others
 pub free_covers_others : (needs : List Need) (target : ℕ) (hit : List ℕ) (free pick : Pick) → IsFree hit free target needs
     → Covers (with_admin free target hit needs) (with_admin pick target hit needs)
 free_covers_others needs target hit free pick is =
-    covers_transitive (with_admin free target hit needs) needs (with_admin pick target hit needs) (free_admin needs target hit free is) (without_admin needs target pick hit)
+    covers_transitive (with_admin free target hit needs) needs (with_admin pick target hit needs) (free_admin needs target hit free is)
+    (without_admin needs target pick hit)
 
 -- users who have a hit within the set, counted
 
+-- a user of whom the hit alone is wanted
 abbrev pub wants : List ℕ → Need
 wants hit = record { hits = hit ∷ []; lacks = [] }
 
+-- whether a user has a hit within the set
 abbrev pub is_free : List ℕ → Need → Bool
 is_free hit need = covers_test (wants hit) need
 
+-- who has a hit within the set passes
 pub free_test : (hit : List ℕ) (need : Need) → HasHitWithin hit need → is_free hit need ≡ true
 free_test hit need h = test_of_covers (wants hit) need (record { hits = (h, tt); lacks = λ role k. cc })
 
+-- who passes has a hit within the set
 pub test_free : (hit : List ℕ) (need : Need) → is_free hit need ≡ true → HasHitWithin hit need
 test_free hit need e = (covers_of_test (wants hit) need e).hits.0
 
+-- what is covered has at least as many such users
 pub count_covered : (hit : List ℕ) (xs ys : List Need) → Covers xs ys → count (is_free hit) xs ≤ count (is_free hit) ys
 count_covered hit xs ys f = counted CoversNeed (is_free hit) (is_free hit)
     (λ x y c e. test_of_covers (wants hit) y (covers_need (wants hit) x y (covers_of_test (wants hit) x e) c)) xs ys f
 
+-- who is given the hit passes
 pub added_is_free : (hit : List ℕ) (need : Need) → is_free hit (add_hit hit need) ≡ true
 added_is_free hit need = free_test hit (add_hit hit need) (inl (λ role h. less_in hit need.lacks role h))
 
-pub count_change : (hit : List ℕ) (xs : List Need) (k : ℕ) (x : Need) → slice_get xs k ≡ Some x → is_free hit x ≡ false → count (is_free hit) (change_at k (add_hit hit) xs) ≡ suc (count (is_free hit) xs)
+-- where someone who hasn't such a hit is given it, there is one more
+pub count_change : (hit : List ℕ) (xs : List Need) (k : ℕ) (x : Need) → slice_get xs k ≡ Some x → is_free hit x ≡ false
+    → count (is_free hit) (change_at k (add_hit hit) xs) ≡ suc (count (is_free hit) xs)
 count_change hit [] k x at e = cc
 count_change hit (y ∷ ys) zero x at e =
     let same : x ≡ y = cc in
@@ -62,12 +73,14 @@ count_change hit (y ∷ ys) zero x at e =
     rw (added_is_free hit y, before) (omega arith)
 count_change hit (y ∷ ys) (suc k) x at e = let r = count_change hit ys k x at e in omega (arith, r)
 
+-- one more such user at the end
 pub count_more : (hit : List ℕ) (xs : List Need) (x : Need) → is_free hit x ≡ true → count (is_free hit) (xs ++ x ∷ []) ≡ suc (count (is_free hit) xs)
 count_more hit [] x e = rw e (omega arith)
 count_more hit (y ∷ ys) x e = let r = count_more hit ys x e in omega (arith, r)
 
 -- where the administrator isn't free, one more has such a hit
-pub count_admin : (needs : List Need) (target : ℕ) (hit : List ℕ) (pick : Pick) → target < length needs → IsPick pick target (length needs) → ¬ IsFree hit pick target needs
+pub count_admin : (needs : List Need) (target : ℕ) (hit : List ℕ) (pick : Pick) → target < length needs → IsPick pick target (length needs)
+    → ¬ IsFree hit pick target needs
     → count (is_free hit) (with_admin pick target hit needs) ≡ suc (count (is_free hit) needs)
 count_admin needs target hit itself l is n =
     let one = get_there needs target l in
@@ -77,7 +90,9 @@ count_admin needs target hit (other place) l is n =
     count_change hit needs place one.0 one.1 (not_false (is_free hit one.0) (λ e. n (one.0, one.1, test_free hit one.0 e)))
 count_admin needs target hit fresh l is n = count_more hit needs (wants hit) (added_is_free hit (record { hits = []; lacks = [] }))
 
-pub not_covering_free : (needs : List Need) (target : ℕ) (hit : List ℕ) (free pick : Pick) → IsFree hit free target needs → target < length needs → IsPick pick target (length needs)
+-- who isn't an administrator already has a pre-image with one more such user, which doesn't cover that of one who is
+pub not_covering_free : (needs : List Need) (target : ℕ) (hit : List ℕ) (free pick : Pick) → IsFree hit free target needs → target < length needs
+    → IsPick pick target (length needs)
     → ¬ IsFree hit pick target needs → Covers (with_admin pick target hit needs) (with_admin free target hit needs) → ⊥
 not_covering_free needs target hit free pick is l picked n covers =
     let more = count_admin needs target hit pick l picked n in
@@ -87,8 +102,10 @@ not_covering_free needs target hit free pick is l picked n covers =
 
 -- a user with adm beside another
 
+-- the user with adm is an administrator already
 pub adm_free : IsFree (adm ∷ []) (other 1) 0 (anyone ∷ hits adm ∷ [])
 adm_free = (hits adm, refl, inl (λ role h. less_in (adm ∷ []) [] role h))
 
+-- a user of whom nothing is wanted isn't
 pub anyone_not_free : IsFree (adm ∷ []) itself 0 (anyone ∷ hits adm ∷ []) → ⊥
 anyone_not_free free = subst (HasHitWithin (adm ∷ [])) (sym (same_some anyone free.0 free.1)) free.2

@@ -25,6 +25,7 @@ AreNormal entries = Each (λ (entry : Entry). IsNormal entry.needs) entries
 pub covered_through : (list : List (List Need)) (a b : List Need) → Covers a b → IsCovered list a → IsCovered list b
 covered_through list a b covers covered = some_weaker (λ one. Covers one a) (λ one. Covers one b) (λ one c. covers_transitive one a b c covers) list covered
 
+-- no candidate beats itself
 pub never_beats : (candidates : List Entry) (i : ℕ) → Beats candidates i i → ⊥
 never_beats candidates i b = by_case b.apart
   where
@@ -35,6 +36,7 @@ never_beats candidates i b = by_case b.apart
     by_case (inl n) = n (ap (λ (entry : Entry). entry.needs) same)
     by_case (inr l) = omega (arith, l)
 
+-- beating goes through, on normal forms
 pub beats_through : (candidates : List Entry) → AreNormal candidates → (i j k : ℕ) → Beats candidates i j → Beats candidates j k → Beats candidates i k
 beats_through candidates normal i j k first second = record {
   by = first.by;
@@ -70,6 +72,7 @@ beats_through candidates normal i j k first second = record {
         by_places (inr l) (inl n) = absurd (n (sym one ∙ e))
         by_places (inr l) (inr m) = omega (arith, l, m)
 
+-- one candidate beats the other, or it doesn't
 pub beats_decided : (candidates : List Entry) (i j : ℕ) → Decided (Beats candidates i j)
 beats_decided candidates i j = by_items (slice_get candidates i) refl (slice_get candidates j) refl
   where
@@ -87,7 +90,8 @@ beats_decided candidates i j = by_items (slice_get candidates i) refl (slice_get
         neither (inl n) = n e
         neither (inr l) = omega (arith, more, l)
 
-    by_parts : (x y : Entry) → slice_get candidates i ≡ Some x → slice_get candidates j ≡ Some y → Decided (Covers x.needs y.needs) → Decided (¬ (x.needs ≡ y.needs) ⊎ (i < j))
+    by_parts : (x y : Entry) → slice_get candidates i ≡ Some x → slice_get candidates j ≡ Some y → Decided (Covers x.needs y.needs)
+        → Decided (¬ (x.needs ≡ y.needs) ⊎ (i < j))
         → Decided (Beats candidates i j)
     by_parts x y at there (inl c) (inl a) = inl (record { by = x; by_is = at; beaten = y; beaten_is = there; covers = c; apart = a })
     by_parts x y at there (inl c) (inr n) = inr (λ b.
@@ -100,13 +104,16 @@ beats_decided candidates i j = by_items (slice_get candidates i) refl (slice_get
     by_items : (o : Option Entry) → slice_get candidates i ≡ o → (p : Option Entry) → slice_get candidates j ≡ p → Decided (Beats candidates i j)
     by_items None e p f = inr (λ b. let at = b.by_is in cc)
     by_items (Some x) e None f = inr (λ b. let at = b.beaten_is in cc)
-    by_items (Some x) e (Some y) f = by_parts x y e f (covers_decided x.needs y.needs) (apart_decided x.needs y.needs (same_decided x.needs y.needs) (compare i j))
+    by_items (Some x) e (Some y) f =
+        by_parts x y e f (covers_decided x.needs y.needs) (apart_decided x.needs y.needs (same_decided x.needs y.needs) (compare i j))
 
 -- nothing below the number is beneath this one, or one is beneath which nothing is
 abbrev pub HasLeast : (ℕ → ℕ → Type 0) → ℕ → ℕ → Type 0
 HasLeast B n j = ((i : ℕ) → i < n → B i j → ⊥) ⊎ ((i : ℕ) × B i j × ((k : ℕ) → k < n → B k i → ⊥))
 
-pub has_least : (B : ℕ → ℕ → Type 0) → ((i j : ℕ) → Decided (B i j)) → ((i : ℕ) → B i i → ⊥) → ((i j k : ℕ) → B i j → B j k → B i k) → (n j : ℕ) → HasLeast B n j
+-- by the places below one number after another
+pub has_least : (B : ℕ → ℕ → Type 0) → ((i j : ℕ) → Decided (B i j)) → ((i : ℕ) → B i i → ⊥) → ((i j k : ℕ) → B i j → B j k → B i k) → (n j : ℕ)
+    → HasLeast B n j
 has_least B d never through zero j = inl (λ i l b. omega arith)
 has_least B d never through (suc n) j = by_last (d n j) (has_least B d never through n j) (has_least B d never through n n)
   where
@@ -129,6 +136,7 @@ has_least B d never through (suc n) j = by_last (d n j) (has_least B d never thr
 abbrev pub HasUnbeaten : List Entry → ℕ → Type 0
 HasUnbeaten candidates j = ((i : ℕ) → Beats candidates i j → ⊥) ⊎ ((i : ℕ) × Beats candidates i j × ((k : ℕ) → Beats candidates k i → ⊥))
 
+-- any candidate that beats another has a place of the list
 pub has_unbeaten : (candidates : List Entry) → AreNormal candidates → (j : ℕ) → HasUnbeaten candidates j
 has_unbeaten candidates normal j =
     by_case (has_least (Beats candidates) (beats_decided candidates) (never_beats candidates) (beats_through candidates normal) (length candidates) j)
@@ -141,7 +149,8 @@ has_unbeaten candidates normal j =
     by_case (inr one) = inr (one.0, one.1, λ k b. one.2 k (below b) b)
 
 -- a candidate that isn't covered by what is known is covered by one that is new and unbeaten
-pub unbeaten_covers : (known : List (List Need)) (candidates : List Entry) → AreNormal candidates → (place : ℕ) (entry : Entry) → slice_get candidates place ≡ Some entry
+pub unbeaten_covers : (known : List (List Need)) (candidates : List Entry) → AreNormal candidates → (place : ℕ) (entry : Entry)
+    → slice_get candidates place ≡ Some entry
     → ¬ IsCovered known entry.needs → (by : Entry) × (at : ℕ) × IsUnbeaten known candidates at by × Covers by.needs entry.needs
 unbeaten_covers known candidates normal place entry at new = by_case (has_unbeaten candidates normal place)
   where
@@ -153,6 +162,7 @@ unbeaten_covers known candidates normal place entry at new = by_case (has_unbeat
         let covers = subst (λ (v : Entry). Covers b.by.needs v.needs) same b.covers in
         (b.by, one.0, record { at = b.by_is; new = λ c. new (covered_through known b.by.needs entry.needs covers c); unbeaten = one.2 }, covers)
 
+-- entries are in a strict order, in which equal requirements aren't parted
 pub entry_order : IsStrictOrder entry_before
 entry_order = record {
   never = λ x h. requirement_order.never x.needs h;
@@ -160,8 +170,10 @@ entry_order = record {
 }
 
 -- unbeaten candidates have one list
-pub one_unbeaten : (known : List (List Need)) (candidates first second : List Entry) → AreUnbeaten known candidates first → AreUnbeaten known candidates second → first ≡ second
-one_unbeaten known candidates first second u v = rising_same entry_before entry_order first second u.rising v.rising (are_in first second u v) (are_in second first v u)
+pub one_unbeaten : (known : List (List Need)) (candidates first second : List Entry) → AreUnbeaten known candidates first → AreUnbeaten known candidates second
+    → first ≡ second
+one_unbeaten known candidates first second u v =
+    rising_same entry_before entry_order first second u.rising v.rising (are_in first second u v) (are_in second first v u)
   where
     are_in : (first second : List Entry) → AreUnbeaten known candidates first → AreUnbeaten known candidates second → AreIn first second
     are_in first second u v =
@@ -169,7 +181,8 @@ one_unbeaten known candidates first second u v = rising_same entry_before entry_
         (λ entry one. same_one_of second entry (v.all one.0 entry one.1)) first u.each
 
 -- an unbeaten one of some candidates is unbeaten among all, and the other way round
-pub part_unbeaten : (known : List (List Need)) (candidates some : List Entry) → AreNormal candidates → (part : ArePart some candidates) → MayLeaveOut known candidates some part
+pub part_unbeaten : (known : List (List Need)) (candidates some : List Entry) → AreNormal candidates → (part : ArePart some candidates)
+    → MayLeaveOut known candidates some part
     → (place : ℕ) (entry : Entry) → IsUnbeaten known some place entry → IsUnbeaten known candidates (part.to place) entry
 part_unbeaten known candidates some normal part left place entry u = record {
   at = part.each place entry u.at;
@@ -206,7 +219,8 @@ part_unbeaten known candidates some normal part left place entry u = record {
             one : there.0 ≡ b.by
             one = same_some there.0 b.by (sym (part.each k there.0 there.1) ∙ ap (slice_get candidates) e ∙ b.by_is)
 
-            by_apart : ¬ (b.by.needs ≡ entry.needs) ⊎ (i < part.to place) → (k < place) ⊎ ((k ≡ place) ⊎ (place < k)) → ¬ (b.by.needs ≡ entry.needs) ⊎ (k < place)
+            by_apart : ¬ (b.by.needs ≡ entry.needs) ⊎ (i < part.to place) → (k < place) ⊎ ((k ≡ place) ⊎ (place < k))
+                → ¬ (b.by.needs ≡ entry.needs) ⊎ (k < place)
             by_apart (inl n) order = inl n
             by_apart (inr m) (inl less) = inr less
             by_apart (inr m) (inr (inl here)) = let f : part.to k ≡ part.to place = ap part.to here in absurd (omega (arith, e, f, m))
@@ -221,6 +235,7 @@ part_unbeaten known candidates some normal part left place entry u = record {
     by_case {other} b (inl n) = n other b
     by_case b (inr one) = none one.0 one.1 one.2
 
+-- who is unbeaten among all was not left out, and is unbeaten among those that are left
 pub unbeaten_part : (known : List (List Need)) (candidates some : List Entry) → (part : ArePart some candidates) → MayLeaveOut known candidates some part
     → (place : ℕ) (entry : Entry) → IsUnbeaten known candidates place entry → (i : ℕ) × IsUnbeaten known some i entry
 unbeaten_part known candidates some part left place entry u = by_left (left place entry u.at)
@@ -248,12 +263,15 @@ unbeaten_part known candidates some part left place entry u = by_left (left plac
             by_apart (inl n) = inl n
             by_apart (inr less) = inr (subst (λ v. part.to other < v) e (part.rises other i less l))
 
-    by_left : ((i : ℕ) × (i < length some) × (part.to i ≡ place)) ⊎ (IsCovered known entry.needs ⊎ ((other : ℕ) × Beats candidates other place)) → (i : ℕ) × IsUnbeaten known some i entry
+    by_left : ((i : ℕ) × (i < length some) × (part.to i ≡ place)) ⊎ (IsCovered known entry.needs ⊎ ((other : ℕ) × Beats candidates other place))
+        → (i : ℕ) × IsUnbeaten known some i entry
     by_left (inl one) = (one.0, kept one.0 one.1 one.2)
     by_left (inr (inl c)) = absurd (u.new c)
     by_left (inr (inr other)) = absurd (u.unbeaten other.0 other.1)
 
-pub part_list : (known : List (List Need)) (candidates some list : List Entry) → AreNormal candidates → (part : ArePart some candidates) → MayLeaveOut known candidates some part
+-- the list of the part is that of all
+pub part_list : (known : List (List Need)) (candidates some list : List Entry) → AreNormal candidates → (part : ArePart some candidates)
+    → MayLeaveOut known candidates some part
     → AreUnbeaten known some list → AreUnbeaten known candidates list
 part_list known candidates some list normal part left u = record {
   rising = u.rising;
@@ -262,7 +280,9 @@ part_list known candidates some list normal part left u = record {
   all = λ place entry one. let r = unbeaten_part known candidates some part left place entry one in u.all r.0 entry r.1;
 }
 
-pub list_part : (known : List (List Need)) (candidates some list : List Entry) → AreNormal candidates → (part : ArePart some candidates) → MayLeaveOut known candidates some part
+-- the list of all is that of the part
+pub list_part : (known : List (List Need)) (candidates some list : List Entry) → AreNormal candidates → (part : ArePart some candidates)
+    → MayLeaveOut known candidates some part
     → AreUnbeaten known candidates list → AreUnbeaten known some list
 list_part known candidates some list normal part left u = record {
   rising = u.rising;

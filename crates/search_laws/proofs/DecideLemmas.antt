@@ -17,6 +17,7 @@ use Rattle.arbac_laws.proofs.SameLemmas.{covers_of_test, covers_test, test_of_co
 abbrev pub Decided : Type 0 → Type 0
 Decided P = P ⊎ ¬ P
 
+-- it holds of some item, or of none
 pub some_decided : {A : Type 0} (P : A → Type 0) → ((x : A) → Decided (P x)) → (xs : List A) → Decided (Some_of P xs)
 some_decided P d [] = inr (λ h. h)
 some_decided P d (x ∷ xs) = by_cases (d x) (some_decided P d xs)
@@ -53,7 +54,8 @@ get_put (x ∷ xs) (suc j) zero = refl
 get_put (x ∷ xs) (suc j) (suc k) = get_put xs j k
 
 -- one item goes to a place, and the others to the rest
-pub embeds_put : {A B : Type 0} (R : A → B → Type 0) (x : A) (xs : List A) (ys : List B) (j : ℕ) (y : B) → slice_get ys j ≡ Some y → R x y → Embeds R xs (cut j ys)
+pub embeds_put : {A B : Type 0} (R : A → B → Type 0) (x : A) (xs : List A) (ys : List B) (j : ℕ) (y : B) → slice_get ys j ≡ Some y → R x y
+    → Embeds R xs (cut j ys)
     → Embeds R (x ∷ xs) ys
 embeds_put {A} {B} R x xs ys j y at r f = record { to = to; apart = apart; each = each }
   where
@@ -75,6 +77,7 @@ embeds_put {A} {B} R x xs ys j y at r f = record { to = to; apart = apart; each 
 abbrev pub Fits : {A B : Type 0} → (A → B → Type 0) → A → List A → List B → ℕ → Type 0
 Fits {A} {B} R x xs ys j = (y : B) × (slice_get ys j ≡ Some y) × R x y × Embeds R xs (cut j ys)
 
+-- a place is such a one, or isn't
 pub fits_decided : {A B : Type 0} (R : A → B → Type 0) → ((x : A) (y : B) → Decided (R x y)) → (x : A) (xs : List A) (ys : List B)
     → ((zs : List B) → Decided (Embeds R xs zs)) → (j : ℕ) → Decided (Fits R x xs ys j)
 fits_decided {A} {B} R d x xs ys rest j = by_item (slice_get ys j) refl
@@ -98,6 +101,7 @@ embeds_decided {A} {B} R d (x ∷ xs) ys = by_place (place_decided (Fits R x xs 
     by_place (inr none) = inr (λ f. let one = f.each 0 x refl in
         none (f.to 0) (get_below ys (f.to 0) one.0 one.1) (one.0, one.1, one.2, embeds_rest R x xs ys f))
 
+-- one user covers another, or doesn't
 pub need_decided : (a b : Need) → Decided (CoversNeed a b)
 need_decided a b = by_test (covers_test a b) refl
   where
@@ -105,9 +109,11 @@ need_decided a b = by_test (covers_test a b) refl
     by_test true e = inl (covers_of_test a b e)
     by_test false e = inr (λ c. let f = test_of_covers a b c in cc)
 
+-- a requirement covers another, or doesn't
 pub covers_decided : (a b : List Need) → Decided (Covers a b)
 covers_decided a b = embeds_decided CoversNeed need_decided a b
 
+-- a list covers a requirement, or doesn't
 pub covered_decided : (list : List (List Need)) (needs : List Need) → Decided (IsCovered list needs)
 covered_decided list needs = some_decided (λ one. Covers one needs) (λ one. covers_decided one needs) list
 

@@ -8,3 +8,4 @@ pub mod RowLemmas
 pub mod MonotonyLemmas
 pub mod AdminLemmas
 pub mod AlikeLemmas
+pub mod MarkLemmas

@@ -23,18 +23,23 @@ use Rattle.search_laws.proofs.CandidateLemmas.{has_form}
 
 -- normal forms
 
-pub covering_form : (a b form : List Need) → Covers a b → normal_form b ≡ Some form → (covering : List Need) × (normal_form a ≡ Some covering) × Covers covering form
+-- what covers a requirement that has a form has one too, which covers the other
+pub covering_form : (a b form : List Need) → Covers a b → normal_form b ≡ Some form
+    → (covering : List Need) × (normal_form a ≡ Some covering) × Covers covering form
 covering_form a b form covers e =
     let made = has_form a (covering_possible a b covers (both_possible b form e).0) in
     (made.0, made.1, covers_transitive made.0 a form (normal_both a made.0 made.1).1 (covers_transitive a b form covers (normal_both b form e).0))
 
-pub one_form : (a b first second : List Need) → Each AreSets a → Each AreSets b → Covers a b → Covers b a → normal_form a ≡ Some first → normal_form b ≡ Some second → first ≡ second
+-- requirements that cover each other have one form
+pub one_form : (a b first second : List Need) → Each AreSets a → Each AreSets b → Covers a b → Covers b a → normal_form a ≡ Some first
+    → normal_form b ≡ Some second → first ≡ second
 one_form a b first second s t f g d e = same_needs first second (form_is_normal a first s d) (form_is_normal b second t e)
     (covers_transitive first a second (normal_both a first d).1 (covers_transitive a b second f (normal_both b second e).0))
     (covers_transitive second b first (normal_both b second e).1 (covers_transitive b a first g (normal_both a first d).0))
 
 -- the form of what covers another, and isn't covered by it or stands before it, beats the other's
-pub form_beats : (candidates : List Entry) (i j : ℕ) (by entry : Entry) (a b : List Need) → slice_get candidates i ≡ Some by → slice_get candidates j ≡ Some entry
+pub form_beats : (candidates : List Entry) (i j : ℕ) (by entry : Entry) (a b : List Need) → slice_get candidates i ≡ Some by
+    → slice_get candidates j ≡ Some entry
     → normal_form a ≡ Some by.needs → normal_form b ≡ Some entry.needs → Covers a b → ¬ Covers b a ⊎ (i < j) → Beats candidates i j
 form_beats candidates i j by entry a b at there e f covers apart = record {
   by = by;
@@ -57,21 +62,25 @@ Along [] (y ∷ ys) = ⊥
 Along (x ∷ xs) [] = ⊥
 Along (x ∷ xs) (y ∷ ys) = CoversNeed x y × Along xs ys
 
+-- then the one covers the other
 pub covers_along : (xs ys : List Need) → Along xs ys → Covers xs ys
 covers_along [] [] h = embeds_none CoversNeed []
 covers_along [] (y ∷ ys) h = absurd h
 covers_along (x ∷ xs) [] h = absurd h
 covers_along (x ∷ xs) (y ∷ ys) h = embeds_front CoversNeed x y xs ys h.0 (covers_along xs ys h.1)
 
+-- each user covers itself
 pub along_itself : (xs : List Need) → Along xs xs
 along_itself [] = tt
 along_itself (x ∷ xs) = (covers_itself x, along_itself xs)
 
+-- one user exchanged in both
 pub along_set : (needs : List Need) (target : ℕ) (a b : Need) → CoversNeed a b → Along (slice_set needs target a) (slice_set needs target b)
 along_set [] target a b h = tt
 along_set (x ∷ xs) zero a b h = (h, along_itself xs)
 along_set (x ∷ xs) (suc target) a b h = (covers_itself x, along_set xs target a b h)
 
+-- one user more at the end of both
 pub along_more : (xs ys : List Need) (x y : Need) → Along xs ys → CoversNeed x y → Along (xs ++ x ∷ []) (ys ++ y ∷ [])
 along_more [] [] x y h c = (c, tt)
 along_more [] (z ∷ ys) x y h c = absurd h
@@ -83,7 +92,8 @@ pub added_covers : (a b : Need) (hit less : List ℕ) → IsWithin less hit → 
 added_covers a b hit less within c = record {
   hits = (
     inl (λ role h. within role (less_in less b.lacks role h)),
-    each_weaker (λ hit. Some_of (λ other. IsWithin (less_roles other b.lacks) hit) b.hits) (λ hit. Some_of (λ other. IsWithin (less_roles other b.lacks) hit) (less ∷ b.hits))
+    each_weaker (λ hit. Some_of (λ other. IsWithin (less_roles other b.lacks) hit) b.hits)
+        (λ hit. Some_of (λ other. IsWithin (less_roles other b.lacks) hit) (less ∷ b.hits))
         (λ hit some. inr some) a.hits c.hits,
   );
   lacks = c.lacks;
@@ -92,23 +102,30 @@ added_covers a b hit less within c = record {
 -- one more hit on the covered side
 pub bare_covers : (need : Need) (hit : List ℕ) → CoversNeed need (add_hit hit need)
 bare_covers need hit = record {
-  hits = each_weaker (λ h. Some_of (λ other. IsWithin (less_roles other need.lacks) h) need.hits) (λ h. Some_of (λ other. IsWithin (less_roles other need.lacks) h) (hit ∷ need.hits))
+  hits =
+      each_weaker (λ h. Some_of (λ other. IsWithin (less_roles other need.lacks) h) need.hits)
+      (λ h. Some_of (λ other. IsWithin (less_roles other need.lacks) h) (hit ∷ need.hits))
       (λ h some. inr some) need.hits (covers_itself need).hits;
   lacks = λ role h. h;
 }
 
-pub along_change : (xs ys : List Need) (k : ℕ) (hit less : List ℕ) → IsWithin less hit → Along xs ys → Along (change_at k (add_hit hit) xs) (change_at k (add_hit less) ys)
+-- one hit more for the user at a place of both
+pub along_change : (xs ys : List Need) (k : ℕ) (hit less : List ℕ) → IsWithin less hit → Along xs ys
+    → Along (change_at k (add_hit hit) xs) (change_at k (add_hit less) ys)
 along_change [] [] k hit less within h = tt
 along_change [] (y ∷ ys) k hit less within h = absurd h
 along_change (x ∷ xs) [] k hit less within h = absurd h
 along_change (x ∷ xs) (y ∷ ys) zero hit less within h = (added_covers x y hit less within h.0, h.1)
 along_change (x ∷ xs) (y ∷ ys) (suc k) hit less within h = (h.0, along_change xs ys k hit less within h.1)
 
-pub along_admin : (pick : Pick) (target : ℕ) (xs ys : List Need) (hit less : List ℕ) → IsWithin less hit → Along xs ys → Along (with_admin pick target hit xs) (with_admin pick target less ys)
+-- the administrator's hit in both
+pub along_admin : (pick : Pick) (target : ℕ) (xs ys : List Need) (hit less : List ℕ) → IsWithin less hit → Along xs ys
+    → Along (with_admin pick target hit xs) (with_admin pick target less ys)
 along_admin itself target xs ys hit less within h = along_change xs ys target hit less within h
 along_admin (other place) target xs ys hit less within h = along_change xs ys place hit less within h
 along_admin fresh target xs ys hit less within h =
-    along_more xs ys (record { hits = hit ∷ []; lacks = [] }) (record { hits = less ∷ []; lacks = [] }) h (added_covers nobody nobody hit less within (covers_itself nobody))
+    along_more xs ys (record { hits = hit ∷ []; lacks = [] }) (record { hits = less ∷ []; lacks = [] }) h
+    (added_covers nobody nobody hit less within (covers_itself nobody))
   where
     nobody : Need
     nobody = record { hits = []; lacks = [] }
@@ -120,11 +137,13 @@ acts_covered needs target pick first second hit less c within =
     covers_along (with_admin pick target hit (slice_set needs target first)) (with_admin pick target less (slice_set needs target second))
     (along_admin pick target (slice_set needs target first) (slice_set needs target second) hit less within (along_set needs target first second c))
 
+-- one hit more for the user at a place of the covered one
 pub change_bare : (xs : List Need) (k : ℕ) (hit : List ℕ) → Along xs (change_at k (add_hit hit) xs)
 change_bare [] k hit = tt
 change_bare (x ∷ xs) zero hit = (bare_covers x hit, along_itself xs)
 change_bare (x ∷ xs) (suc k) hit = (covers_itself x, change_bare xs k hit)
 
+-- a list covers each longer one that begins with it
 pub front_covers : (xs ys : List Need) → Covers xs (xs ++ ys)
 front_covers [] ys = embeds_none CoversNeed ys
 front_covers (x ∷ xs) ys = embeds_front CoversNeed x x xs (xs ++ ys) (covers_itself x) (front_covers xs ys)
@@ -135,7 +154,9 @@ without_admin needs target itself hit = covers_along needs (change_at target (ad
 without_admin needs target (other place) hit = covers_along needs (change_at place (add_hit hit) needs) (change_bare needs place hit)
 without_admin needs target fresh hit = front_covers needs (record { hits = hit ∷ []; lacks = [] } ∷ [])
 
-pub parent_covers : (needs : List Need) (target : ℕ) (pick : Pick) (need before : Need) (hit : List ℕ) → slice_get needs target ≡ Some need → CoversNeed need before
+-- a parent whose target covers what is wanted of it before covers the pre-image
+pub parent_covers : (needs : List Need) (target : ℕ) (pick : Pick) (need before : Need) (hit : List ℕ) → slice_get needs target ≡ Some need
+    → CoversNeed need before
     → Covers needs (with_admin pick target hit (slice_set needs target before))
 parent_covers needs target pick need before hit at c =
     covers_transitive needs (slice_set needs target before) (with_admin pick target hit (slice_set needs target before))
@@ -150,11 +171,15 @@ wanted_before rules conjunct role need = record {
   lacks = join_roles need.lacks (join_roles conjunct.lacks (barred rules.order role rules.exclusive));
 }
 
-pub before_is_wanted : (rules : Rules) (conjunct need before : Need) (role : ℕ) → before_assign rules conjunct role need ≡ Some before → wanted_before rules conjunct role need ≡ before
-before_is_wanted rules conjunct need before role e = (some_cond (has_role need.lacks role || is_barred rules.order role rules.exclusive) (wanted_before rules conjunct role need) before e).1
+-- where an assignment will do, that is what it wants
+pub before_is_wanted : (rules : Rules) (conjunct need before : Need) (role : ℕ) → before_assign rules conjunct role need ≡ Some before
+    → wanted_before rules conjunct role need ≡ before
+before_is_wanted rules conjunct need before role e =
+    (some_cond (has_role need.lacks role || is_barred rules.order role rules.exclusive) (wanted_before rules conjunct role need) before e).1
 
 -- an assignment that takes all hits that the other takes, and whose conjunct is wanted anyway, wants less
-pub assign_covers : (rules : Rules) (need a b first second : Need) (given role : ℕ) → before_assign rules a given need ≡ Some first → before_assign rules b role need ≡ Some second
+pub assign_covers : (rules : Rules) (need a b first second : Need) (given role : ℕ) → before_assign rules a given need ≡ Some first
+    → before_assign rules b role need ≡ Some second
     → Each (λ hit. IsIn hit role → IsIn hit given) need.hits → Each (λ hit. Some_of (λ other. IsWithin (less_roles other second.lacks) hit) second.hits) a.hits
     → IsWithin first.lacks second.lacks → CoversNeed first second
 assign_covers rules need a b first second given role e f takes wanted within = record {

@@ -32,9 +32,12 @@ abbrev pub onward : (ℕ → ℕ) → List ℕ → ℕ → ℕ
 onward to places = λ user. to (get_or places user 0)
 
 -- the plan of an entry, where each of its parents has one
-pub plan_by_origin : (rules : Rules) (profiles : List Profile) (goal : List Term) (recorded : List Entry) → IsRecordedList rules profiles goal recorded → (n : ℕ)
-    → ((k : ℕ) → k < n → (parent : Entry) → IsDerived rules goal (take k recorded) parent → (to : ℕ → ℕ) → (acts : List Act) × Plans rules recorded parent to acts)
-    → (entry : Entry) (origin : Origin) → entry.origin ≡ origin → (needs : List Need) → IsOrigin rules goal (take n recorded) origin needs → normal_form needs ≡ Some entry.needs
+pub plan_by_origin : (rules : Rules) (profiles : List Profile) (goal : List Term) (recorded : List Entry) → IsRecordedList rules profiles goal recorded
+    → (n : ℕ)
+    → ((k : ℕ) → k < n → (parent : Entry) → IsDerived rules goal (take k recorded) parent → (to : ℕ → ℕ)
+    → (acts : List Act) × Plans rules recorded parent to acts)
+    → (entry : Entry) (origin : Origin) → entry.origin ≡ origin → (needs : List Need) → IsOrigin rules goal (take n recorded) origin needs
+    → normal_form needs ≡ Some entry.needs
     → (to : ℕ → ℕ) → (acts : List Act) × Plans rules recorded entry to acts
 plan_by_origin rules profiles goal recorded list n again entry (of_goal number) e needs named form to = ([], (number, e))
 plan_by_origin rules profiles goal recorded list n again entry (of_parent number ob) e needs named form to =
@@ -45,14 +48,19 @@ plan_by_origin rules profiles goal recorded list n again entry (of_parent number
       (named.0, ob, stand.0, record { number = number; origin = e; parent_is = there.1; raw = needs; raw_is = named.3; stand = stand.1 }, refl, rest.1),
     )
 
-pub planned : (rules : Rules) (profiles : List Profile) (goal : List Term) (recorded : List Entry) → IsRecordedList rules profiles goal recorded → (m n : ℕ) → n ≤ m
+-- by the parents, each before its children
+pub planned : (rules : Rules) (profiles : List Profile) (goal : List Term) (recorded : List Entry) → IsRecordedList rules profiles goal recorded → (m n : ℕ)
+    → n ≤ m
     → (entry : Entry) → IsDerived rules goal (take n recorded) entry → (to : ℕ → ℕ) → (acts : List Act) × Plans rules recorded entry to acts
 planned rules profiles goal recorded list zero n l entry derived to =
-    plan_by_origin rules profiles goal recorded list n (λ k less parent own to. absurd (omega (arith, l, less))) entry entry.origin refl derived.0 derived.1 derived.2 to
+    plan_by_origin rules profiles goal recorded list n
+    (λ k less parent own to. absurd (omega (arith, l, less))) entry entry.origin refl derived.0 derived.1 derived.2 to
 planned rules profiles goal recorded list (suc m) n l entry derived to =
-    plan_by_origin rules profiles goal recorded list n (λ k less parent own to. planned rules profiles goal recorded list m k (omega (arith, l, less)) parent own to)
+    plan_by_origin rules profiles goal recorded list n
+    (λ k less parent own to. planned rules profiles goal recorded list m k (omega (arith, l, less)) parent own to)
     entry entry.origin refl derived.0 derived.1 derived.2 to
 
+-- a derived entry has a plan
 pub has_plan : (rules : Rules) (profiles : List Profile) (goal : List Term) (recorded : List Entry) → IsRecordedList rules profiles goal recorded
     → (entry : Entry) → IsDerived rules goal recorded entry → (to : ℕ → ℕ) → (acts : List Act) × Plans rules recorded entry to acts
 has_plan rules profiles goal recorded list entry derived to =
@@ -61,16 +69,20 @@ has_plan rules profiles goal recorded list entry derived to =
 
 -- one plan
 
+-- an origin isn't both
 pub goal_not_parent : (entry : Entry) (number parent : ℕ) (ob : Obligation) → entry.origin ≡ of_goal number → entry.origin ≡ of_parent parent ob → ⊥
 goal_not_parent entry number parent ob e f = cc
 
+-- one origin names one parent and one obligation
 pub same_parent : (m n : ℕ) (a b : Obligation) → of_parent m a ≡ of_parent n b → (m ≡ n) × (a ≡ b)
 same_parent m n a b e = (cc, cc)
 
 -- an entry comes from one parent by one obligation, and stands at one row of places
-pub comes_from_one : (rules : Rules) (recorded : List Entry) (entry p q : Entry) (a b : Obligation) (xs ys : List ℕ) → ComesFrom rules recorded entry p a xs → ComesFrom rules recorded entry q b ys
+pub comes_from_one : (rules : Rules) (recorded : List Entry) (entry p q : Entry) (a b : Obligation) (xs ys : List ℕ) → ComesFrom rules recorded entry p a xs
+    → ComesFrom rules recorded entry q b ys
     → (p ≡ q) × (a ≡ b) × (xs ≡ ys)
-comes_from_one rules recorded entry p q a b xs ys f g = (parent, named.1, one_form_place g.raw entry.needs xs ys (subst (λ raw. AreFormPlaces raw entry.needs xs) raw f.stand) g.stand)
+comes_from_one rules recorded entry p q a b xs ys f g =
+    (parent, named.1, one_form_place g.raw entry.needs xs ys (subst (λ raw. AreFormPlaces raw entry.needs xs) raw f.stand) g.stand)
   where
     named : (f.number ≡ g.number) × (a ≡ b)
     named = same_parent f.number g.number a b (sym f.origin ∙ g.origin)
@@ -81,7 +93,9 @@ comes_from_one rules recorded entry p q a b xs ys f g = (parent, named.1, one_fo
     raw : f.raw ≡ g.raw
     raw = same_some f.raw g.raw (sym f.raw_is ∙ ap (λ (v : Entry). pre_image rules v.needs a) parent ∙ ap (pre_image rules q.needs) named.1 ∙ g.raw_is)
 
-pub one_plan : (rules : Rules) (recorded : List Entry) (first second : List Act) (entry : Entry) (to : ℕ → ℕ) → Plans rules recorded entry to first → Plans rules recorded entry to second → first ≡ second
+-- an entry has one plan
+pub one_plan : (rules : Rules) (recorded : List Entry) (first second : List Act) (entry : Entry) (to : ℕ → ℕ) → Plans rules recorded entry to first
+    → Plans rules recorded entry to second → first ≡ second
 one_plan rules recorded [] [] entry to f g = refl
 one_plan rules recorded [] (act ∷ acts) entry to f g = absurd (goal_not_parent entry f.0 g.3.number g.1 f.1 g.3.origin)
 one_plan rules recorded (act ∷ acts) [] entry to f g = absurd (goal_not_parent entry g.0 f.3.number f.1 g.1 f.3.origin)
@@ -100,6 +114,7 @@ one_plan rules recorded (x ∷ xs) (y ∷ ys) entry to f g =
 
 -- the plan is a run
 
+-- an act reads two places alone
 pub act_same : (ob : Obligation) (count : ℕ) (f g : ℕ → ℕ) → ((i : ℕ) → f i ≡ g i) → act_of ob count f ≡ act_of ob count g
 act_same ob count f g e = let admin = e (admin_place (pick_of ob) (target_of ob) count) in let target = e (target_of ob) in cc
 
@@ -107,7 +122,9 @@ act_same ob count f g e = let admin = e (admin_place (pick_of ob) (target_of ob)
 abbrev pub AreDerived : Rules → List Term → List Entry → Type 0
 AreDerived rules goal recorded = (place : ℕ) (entry : Entry) → slice_get recorded place ≡ Some entry → IsDerived rules goal recorded entry
 
-pub are_derived : (rules : Rules) (profiles : List Profile) (goal : List Term) (recorded : List Entry) → IsRecordedList rules profiles goal recorded → AreDerived rules goal recorded
+-- a recorded list is one
+pub are_derived : (rules : Rules) (profiles : List Profile) (goal : List Term) (recorded : List Entry) → IsRecordedList rules profiles goal recorded
+    → AreDerived rules goal recorded
 are_derived rules profiles goal recorded list place entry at = let d = (list place entry at).derived in (d.0, among entry.origin d.0 d.1, d.2)
   where
     among : (origin : Origin) (needs : List Need) → IsOrigin rules goal (take place recorded) origin needs → IsOrigin rules goal recorded origin needs
@@ -115,21 +132,26 @@ are_derived rules profiles goal recorded list place entry at = let d = (list pla
     among (of_parent number ob) needs named = (named.0, (get_taken recorded place number named.0 named.1).1, named.2, named.3)
 
 -- the obligation of an entry is one of its parent's
-pub is_listed : (rules : Rules) (goal : List Term) (recorded : List Entry) (entry parent : Entry) (ob : Obligation) (places : List ℕ) → IsDerived rules goal recorded entry
+pub is_listed : (rules : Rules) (goal : List Term) (recorded : List Entry) (entry parent : Entry) (ob : Obligation) (places : List ℕ)
+    → IsDerived rules goal recorded entry
     → ComesFrom rules recorded entry parent ob places → IsOneOf (obligations rules parent.needs) ob
-is_listed rules goal recorded entry parent ob places derived comes = by_named (subst (λ origin. IsOrigin rules goal recorded origin derived.0) comes.origin derived.1)
+is_listed rules goal recorded entry parent ob places derived comes =
+    by_named (subst (λ origin. IsOrigin rules goal recorded origin derived.0) comes.origin derived.1)
   where
     by_named : IsOrigin rules goal recorded (of_parent comes.number ob) derived.0 → IsOneOf (obligations rules parent.needs) ob
     by_named named = subst (λ (p : Entry). IsOneOf (obligations rules p.needs) ob) (same_some named.0 parent (sym named.1 ∙ comes.parent_is)) named.2
 
+-- from users who meet the entry its plan is a run to users who meet the goal
 pub plan_runs : (rules : Rules) → AreSeniors rules.order → (goal : List Term) (recorded : List Entry) → AreDerived rules goal recorded
-    → (acts : List Act) (entry : Entry) → IsDerived rules goal recorded entry → (users : List (List ℕ)) (to : ℕ → ℕ) → MeetsBy users entry.needs to → Plans rules recorded entry to acts
+    → (acts : List Act) (entry : Entry) → IsDerived rules goal recorded entry → (users : List (List ℕ)) (to : ℕ → ℕ) → MeetsBy users entry.needs to
+    → Plans rules recorded entry to acts
     → (end : List (List ℕ)) × Run rules users acts end × GoalMet rules.order.edges goal end
 plan_runs rules same goal recorded each [] entry derived users to met plan = (
   users,
   refl,
   (goal_both rules.order same goal users).1
-      (some_one_at (λ needs. IsPossible needs × Meets users needs) (goal_requirements rules.order goal) derived.0 (plan.0, named) (met_possible users derived.0 before, before)),
+      (some_one_at (λ needs. IsPossible needs × Meets users needs) (goal_requirements rules.order goal) derived.0 (plan.0, named)
+      (met_possible users derived.0 before, before)),
 )
   where
     named : slice_get (goal_requirements rules.order goal) plan.0 ≡ Some derived.0
@@ -152,25 +174,30 @@ plan_runs rules same goal recorded each (act ∷ acts) entry derived users to me
     stood i = raw.1 i ∙ met.1 (get_or plan.2 i 0)
 
     leads : (new : List (List ℕ)) × Step rules users (act_of plan.1 (length plan.0.needs) raw.0.to) new × MeetsBy new plan.0.needs raw.0.to
-    leads = listed_leads rules same users plan.0.needs plan.1 (is_listed rules goal recorded entry plan.0 plan.1 plan.2 derived comes) comes.raw comes.raw_is raw.0
+    leads =
+        listed_leads rules same users plan.0.needs plan.1 (is_listed rules goal recorded entry plan.0 plan.1 plan.2 derived comes) comes.raw comes.raw_is raw.0
 
     step : Step rules users act leads.0
     step = subst (λ a. Step rules users a leads.0) (act_same plan.1 (length plan.0.needs) raw.0.to (onward to plan.2) stood ∙ sym plan.4) leads.1
 
 -- found
 
+-- what a search shows that found an entry
 pub found_shows : (s : Search) → AreSeniors s.rules.order → (recorded : List Entry) (entry : Entry) → IsOutcome s (found recorded entry)
     → IsRecordedList s.rules s.profiles s.goal recorded × IsDerived s.rules s.goal recorded entry × IsMet s.profiles entry.needs
 found_shows s same recorded entry o = by_case (came s same (found recorded entry) o)
   where
-    by_case : Came s (found recorded entry) → IsRecordedList s.rules s.profiles s.goal recorded × IsDerived s.rules s.goal recorded entry × IsMet s.profiles entry.needs
+    by_case : Came s (found recorded entry)
+        → IsRecordedList s.rules s.profiles s.goal recorded × IsDerived s.rules s.goal recorded entry × IsMet s.profiles entry.needs
     by_case (inl h) = let e = h.2 in cc
     by_case (inr h) = h
 
+-- a found entry has a plan
 pub found_plan : (s : Search) → AreSeniors s.rules.order → (recorded : List Entry) (entry : Entry) → IsOutcome s (found recorded entry) → (to : ℕ → ℕ)
     → (acts : List Act) × Plans s.rules recorded entry to acts
 found_plan s same recorded entry o to = let shown = found_shows s same recorded entry o in has_plan s.rules s.profiles s.goal recorded shown.0 entry shown.1 to
 
+-- the plan of a found entry is a run to users who meet the goal
 pub found_runs : (s : Search) → AreSeniors s.rules.order → (recorded : List Entry) (entry : Entry) → IsOutcome s (found recorded entry)
     → (users : List (List ℕ)) (to : ℕ → ℕ) → MeetsBy users entry.needs to → (acts : List Act) → Plans s.rules recorded entry to acts
     → (end : List (List ℕ)) × Run s.rules users acts end × GoalMet s.rules.order.edges s.goal end
@@ -178,7 +205,9 @@ found_runs s same recorded entry o users to met acts plan =
     let shown = found_shows s same recorded entry o in
     plan_runs s.rules same s.goal recorded (are_derived s.rules s.profiles s.goal recorded shown.0) acts entry shown.1 users to met plan
 
-pub found_reachable : (s : Search) → AreSeniors s.rules.order → (recorded : List Entry) (entry : Entry) → IsOutcome s (found recorded entry) → IsReachable s.rules s.profiles s.goal
+-- where an entry is found, the goal is reachable
+pub found_reachable : (s : Search) → AreSeniors s.rules.order → (recorded : List Entry) (entry : Entry) → IsOutcome s (found recorded entry)
+    → IsReachable s.rules s.profiles s.goal
 found_reachable s same recorded entry o =
     let met = (found_shows s same recorded entry o).2 in
     let plan = found_plan s same recorded entry o met.2.to in

@@ -1,6 +1,6 @@
 //! Laws of beating.
 
-ghost use Rattle.std.specs.Prelude.{ℕ, ◌≡◌, ◌⊎◌, ◌↔◌, List, slice_get, Some};
+ghost use Rattle.std.specs.Prelude.{ℕ, ◌≡◌, ◌↔◌, List, slice_get, Some};
 ghost use Rattle.list_words.specs.Lists.{Each};
 ghost use Rattle.arbac_laws.specs.Needs.{Need, Covers, IsCovered};
 ghost use Rattle.arbac_laws.specs.NormalForms.{IsNormal};

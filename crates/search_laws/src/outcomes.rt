@@ -1,12 +1,12 @@
 //! What each outcome of a search shows.
 
-ghost use Rattle.std.specs.Prelude.{ℕ, ◌≡◌, ◌≤◌, ◌++◌, [], ◌∷◌, List, length, Some};
-ghost use Rattle.list_words.specs.Lists.{Each, IsOneOf};
+ghost use Rattle.std.specs.Prelude.{ℕ, ◌≡◌, ◌++◌, [], ◌∷◌, List, length, Some};
+ghost use Rattle.list_words.specs.Lists.{IsOneOf};
 ghost use Rattle.role_order.specs.Graph.{AreEdges};
 ghost use Rattle.arbac_policy.specs.declared.act.Act.{Act};
 ghost use Rattle.arbac_policy.specs.Steps.{Run};
-ghost use Rattle.arbac_policy.specs.Goals.{IsDrawn, IsReachable, GoalMet};
-ghost use Rattle.arbac_laws.specs.Needs.{Need, IsCovered, IsPossible, Meets, MeetsBy};
+ghost use Rattle.arbac_policy.specs.Goals.{IsReachable, GoalMet};
+ghost use Rattle.arbac_laws.specs.Needs.{Need, IsCovered, IsPossible, MeetsBy};
 ghost use Rattle.arbac_laws.specs.Closed.{IsClosedList, IsUnmet};
 ghost use Rattle.arbac_laws.specs.Obligations.{Obligation, obligations, pre_image};
 ghost use Rattle.arbac_laws.specs.Recorded.{Entry, IsRecordedList};

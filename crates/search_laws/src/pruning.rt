@@ -1,6 +1,6 @@
 //! Laws of the pre-images that needn't be made.
 
-ghost use Rattle.std.specs.Prelude.{ℕ, ◌≡◌, ◌<◌, ◌⊎◌, ◌++◌, [], ◌∷◌, List, length, slice_get, slice_set, Some};
+ghost use Rattle.std.specs.Prelude.{ℕ, ◌≡◌, ◌<◌, ◌≤◌, ◌⊎◌, ◌++◌, [], ◌∷◌, List, length, slice_get, slice_set, Some};
 ghost use Rattle.list_words.specs.Lists.{Each, Some_of};
 ghost use Rattle.role_order.specs.Roles.{IsIn, IsWithin, less_roles};
 ghost use Rattle.arbac_policy.specs.Rules.{Rules};
@@ -11,7 +11,7 @@ ghost use Rattle.arbac_laws.specs.Recorded.{Entry};
 ghost use Rattle.arbac_laws.specs.Rows.{adm, hits, anyone};
 ghost use Rattle.search_laws.specs.Candidates.{needs_in};
 ghost use Rattle.search_laws.specs.Beats.{Beats};
-ghost use Rattle.search_laws.specs.Pruning.{IsFree, changed_place, changed_pick};
+ghost use Rattle.search_laws.specs.Pruning.{HasHitWithin, IsFree, changed_place, changed_pick};
 
 /// What covers carries over to normal forms: what covers a possible requirement is possible, and its form
 /// covers the other's; requirements that cover each other have one form.
@@ -68,6 +68,19 @@ pub fn left_out_laws()
     ensures beaten { (candidates : List Entry) (i j : ℕ) (by entry : Entry) (a b : List Need) →
         slice_get candidates i ≡ Some by → slice_get candidates j ≡ Some entry →
         normal_form a ≡ Some by.needs → normal_form b ≡ Some entry.needs → Covers a b → ¬ Covers b a ⊎ (i < j) → Beats candidates i j }
+{}
+
+/// What a cover test may ask first: a hit within a set, a lack and a user have their like in whatever is covered,
+/// which has at least as many users.
+pub fn mark_laws()
+    ensures hits { (set : List ℕ) (a b : Need) → CoversNeed a b → HasHitWithin set a → HasHitWithin set b }
+    ensures lacks { (role : ℕ) (a b : Need) → CoversNeed a b → IsIn a.lacks role → IsIn b.lacks role }
+    ensures some_hits { (set : List ℕ) (a b : List Need) → Covers a b →
+        Some_of (λ need. HasHitWithin set need) a → Some_of (λ need. HasHitWithin set need) b }
+    ensures some_lacks { (role : ℕ) (a b : List Need) → Covers a b →
+        Some_of (λ (need : Need). IsIn need.lacks role) a → Some_of (λ (need : Need). IsIn need.lacks role) b }
+    ensures users { (a b : List Need) → Covers a b → Each (λ need. Some_of (CoversNeed need) b) a }
+    ensures fewer { (a b : List Need) → Covers a b → length a ≤ length b }
 {}
 
 /// Beside a user with adm no other administrator is needed; who has no such hit, or is new, isn't one already.

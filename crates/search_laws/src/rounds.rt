@@ -5,11 +5,11 @@ ghost use Rattle.list_words.specs.Lists.{Each};
 ghost use Rattle.role_order.specs.Graph.{AreEdges};
 ghost use Rattle.arbac_policy.specs.Rules.{Rules};
 ghost use Rattle.arbac_policy.specs.Truth.{Term};
-ghost use Rattle.arbac_laws.specs.Needs.{Need, IsCovered};
+ghost use Rattle.arbac_laws.specs.Needs.{IsCovered};
 ghost use Rattle.arbac_laws.specs.NormalForms.{IsNormal};
 ghost use Rattle.arbac_laws.specs.Recorded.{Entry};
 ghost use Rattle.search_laws.specs.Candidates.{goal_candidates, next_candidates, needs_in, batch};
-ghost use Rattle.search_laws.specs.Rounds.{Search, Outcome, Walk, goes_on, Walks, Round, IsOutcome};
+ghost use Rattle.search_laws.specs.Rounds.{Search, Outcome, goes_on, Walks, Round, IsOutcome};
 
 /// Candidates are in normal form; after a round that goes on each of its candidates is covered by a
 /// barrier or a recorded entry; a round keeps what is recorded, within the limit, and takes some that

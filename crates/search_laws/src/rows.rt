@@ -4,19 +4,20 @@ ghost use Rattle.std.specs.Prelude.{ℕ, [], ◌∷◌, ◌≡◌};
 ghost use Rattle.arbac_policy.specs.Truth.{has};
 ghost use Rattle.arbac_policy.specs.declared.act.ActKind.TheVariants.{Assign, Weak};
 ghost use Rattle.arbac_laws.specs.Rows.{mix, adm, c, hits, anyone, one_admin, two_admins, mix_needs, mix_entries};
-ghost use Rattle.search_laws.specs.Candidates.{goal_candidates, next_candidates, needs_in};
+ghost use Rattle.search_laws.specs.Candidates.{batch, goal_candidates, next_candidates, needs_in};
 ghost use Rattle.search_laws.specs.Beats.{Beats, AreUnbeaten, ArePart, MayLeaveOut};
 ghost use Rattle.search_laws.specs.Plans.{Plans};
 ghost use Rattle.search_laws.specs.Rounds.{Walks, ComesTo, IsOutcome, found, full, closed, goes_on};
 ghost use Rattle.search_laws.specs.Rows.{mix_search, goal_entry, given_entry, taken_entry, third_round, three_entries, again_entry, adm_entry};
 
-/// The candidates of each round.
+/// The candidates of each round, which takes at most 64 parents.
 pub fn candidate_rows()
     ensures first { goal_candidates mix (has c ∷ []) ≡ goal_entry ∷ [] }
     ensures second { next_candidates mix (goal_entry ∷ []) 0 ≡ given_entry ∷ [] }
     ensures third { next_candidates mix mix_entries 1 ≡ third_round }
     ensures fourth { next_candidates mix three_entries 2 ≡ [] }
     ensures all_taken { next_candidates mix mix_entries 2 ≡ [] }
+    ensures so_many { batch ≡ 64 }
 {}
 
 /// Of the third round the requirement with fewer wants covers the two others, which don't cover it; of two that

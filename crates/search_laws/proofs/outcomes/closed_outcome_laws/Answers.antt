@@ -5,6 +5,7 @@ use Rattle.search_laws.specs.Candidates.{needs_in}
 use Rattle.search_laws.proofs.OutcomeLemmas.{closed_list}
 use Rattle.search_laws.proofs.outcomes.closed_outcome_laws.Goals as goal
 
+-- a closed list excludes each run to the goal
 pub returns : goal.returns
 returns c = record {
   list = λ s ends. closed_list s (are_seniors s.rules.order ends);

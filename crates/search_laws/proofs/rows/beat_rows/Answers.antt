@@ -1,8 +1,8 @@
+use Rattle.std.proofs.Common.{[]}
 use Rattle.search_laws.specs.Rows.{third_round}
 use Rattle.search_laws.proofs.BeatLemmas.{never_beats}
-use Rattle.search_laws.proofs.RowLemmas.{taken_beats_own, taken_beats_third, own_beats_not, earlier_beats, later_beats_not, third_unbeaten, none_not_unbeaten, known_not_unbeaten}
-use Rattle.search_laws.proofs.RowLemmas.{sorted_unbeaten, unsorted_not_unbeaten, goal_not_left_out}
-use Rattle.std.proofs.Common.{[]}
+use Rattle.search_laws.proofs.RowLemmas.{taken_beats_own, taken_beats_third, own_beats_not, earlier_beats, later_beats_not}
+use Rattle.search_laws.proofs.RowLemmas.{third_unbeaten, none_not_unbeaten, known_not_unbeaten, sorted_unbeaten, unsorted_not_unbeaten, goal_not_left_out}
 use Rattle.search_laws.proofs.rows.beat_rows.Goals as goal
 
 pub returns : goal.returns
