@@ -149,7 +149,10 @@ fn acts_on_permissions_are_judged_by_the_dual_of_those_on_users(
         let act = act_of(kind, admin, target, role);
         match decide_perm(&policy, &users, &permissions, &act) {
             Verdict::Granted(set) => {
-                assert!(rt; are_equal(&set, &set_of(&rt, roles)), "another set: {act:?}");
+                assert!(rt;
+                    are_equal(&set, &set_of(&rt, roles)),
+                    "another set: {act:?}"
+                );
             }
             Verdict::Denied(part) => panic!(rt; "{act:?} is denied: {part:?}"),
         }
