@@ -56,7 +56,8 @@ times_taken number (x ∷ xs) (suc i) = let r = times_taken number xs i in omega
 
 pub profiles_more : (profiles : List Profile) (xs : List ℕ) (i x : ℕ) → slice_get xs i ≡ Some x → AreProfiles profiles (take i xs)
     → x < length profiles → AreProfiles profiles (take (i + 1) xs)
-profiles_more profiles xs i x e are less k number at = by_place (get_last_cases (take i xs) x number k (subst (λ ys. slice_get ys k ≡ Some number) (take_one_more xs i x e) at))
+profiles_more profiles xs i x e are less k number at =
+    by_place (get_last_cases (take i xs) x number k (subst (λ ys. slice_get ys k ≡ Some number) (take_one_more xs i x e) at))
   where
     by_place : (slice_get (take i xs) k ≡ Some number) ⊎ ((k ≡ length (take i xs)) × (x ≡ number)) → number < length profiles
     by_place (inl h) = are k number h
@@ -80,7 +81,8 @@ uses_here from xs i x used e low high long are j l = by_place (compare j (x - fr
     other : (from + j ≡ x → ⊥) → (j ≡ x - from → ⊥) → get_or (slice_set used (x - from) (get_or used (x - from) 0 + 1)) j 0 ≡ times (from + j) (take (i + 1) xs)
     other n m = get_or-set_other used (x - from) j (get_or used (x - from) 0 + 1) 0 m ∙ are j l ∙ sym (times_other (from + j) xs i x e (λ s. n (sym s)))
 
-    by_place : (j < x - from) ⊎ ((j ≡ x - from) ⊎ (x - from < j)) → get_or (slice_set used (x - from) (get_or used (x - from) 0 + 1)) j 0 ≡ times (from + j) (take (i + 1) xs)
+    by_place : (j < x - from) ⊎ ((j ≡ x - from) ⊎ (x - from < j))
+        → get_or (slice_set used (x - from) (get_or used (x - from) 0 + 1)) j 0 ≡ times (from + j) (take (i + 1) xs)
     by_place (inl h) = other (λ s. omega arith) (λ s. omega arith)
     by_place (inr (inl h)) =
         get_or-set_at used (x - from) j (get_or used (x - from) 0 + 1) 0 h (omega arith)
@@ -114,14 +116,16 @@ few_here profiles from to xs i x e left few number profile most low high at m = 
     by_test true t =
         let same : x ≡ number = eqb-true x number t in
         let count = times_here number xs i x e same in
-        let here : has_left (slice_get profiles number) (times number (take i xs)) ≡ true = subst (λ n. has_left (slice_get profiles n) (times n (take i xs)) ≡ true) same left in
+        let here : has_left (slice_get profiles number) (times number (take i xs)) ≡ true =
+        subst (λ n. has_left (slice_get profiles n) (times n (take i xs)) ≡ true) same left in
         let below = left_below profile most (times number (take i xs)) m (ap (λ o. has_left o (times number (take i xs))) (sym at) ∙ here) in
         omega (arith, count, below)
     by_test false t =
         let count = times_other number xs i x e (λ s. grind (arith, nat_tests)) in
         let before = few number profile most low high at m in omega (arith, count, before)
 
-spent_of : (profiles : List Profile) (number used : ℕ) (o : Option Profile) → slice_get profiles number ≡ o → has_left o used ≡ false → IsSpent profiles number used
+spent_of : (profiles : List Profile) (number used : ℕ) (o : Option Profile) → slice_get profiles number ≡ o → has_left o used ≡ false
+    → IsSpent profiles number used
 spent_of profiles number used None e h = inl e
 spent_of profiles number used (Some profile) e h = by_most profile.most refl
   where
@@ -158,10 +162,12 @@ pub record IsDrawnBelow (profiles : List Profile) (count : ℕ) (xs : List ℕ) 
 
 -- one block more, counted in the front of the choice
 pub block_more : (profiles : List Profile) (from to : ℕ) (xs : List ℕ) (end next : ℕ) → IsDrawnBelow profiles from xs end → next ≤ length (take end xs)
-    → AreFew profiles from to (take next (take end xs)) → (next < length (take end xs) → IsSpentAt profiles (take end xs) next) → IsDrawnBelow profiles to xs next
+    → AreFew profiles from to (take next (take end xs)) → (next < length (take end xs) → IsSpentAt profiles (take end xs) next)
+    → IsDrawnBelow profiles to xs next
 block_more profiles from to xs end next so within few spent = record {
   within = omega (arith, ends, so.within);
-  profiles_are = λ k number e. let taken = get_taken xs next k number e in so.profiles_are k number (get_take xs end k (omega (arith, ends, taken.0)) ∙ taken.1);
+  profiles_are = λ k number e. let taken = get_taken xs next k number e in
+      so.profiles_are k number (get_take xs end k (omega (arith, ends, taken.0)) ∙ taken.1);
   few = λ number profile most low high at m. by_block number profile most (compare number from) high at m;
   spent = λ l. by_end (compare next end) l;
 }

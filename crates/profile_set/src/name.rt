@@ -8,7 +8,7 @@ ghost use Rattle.std.specs.Ordering.{nat_cmp, as_partial_cmp};
 ghost use Rattle.std.specs.Cmp.Lexicographic.{slice_cmp};
 ghost use Rattle.std.proofs.lemmas.Cmp.{nat_list_cmp_total};
 ghost use Rattle.std.proofs.Common.{rules};
-ghost use Rattle.role_order.specs.Names.{is_name as name};
+ghost use Rattle.role_order.specs.Names as names;
 
 use role_order::is_name;
 use std::alloc::{AllocError, Global};
@@ -37,8 +37,8 @@ impl Name {
     /// The name with this text. None exactly where the text is no name.
     pub fn new(alloc: Global, text: &str) -> Result<Option<Name>, AllocError>
         ensures text { IfOk result (λ made. IfSome made (λ new. new ≡ text.now)) }
-        ensures name { IfOk result (λ made. IfSome made (λ new. name text.now ≡ true)) }
-        ensures none { IfOk result (λ made. IfNone made (name text.now ≡ false)) }
+        ensures name { IfOk result (λ made. IfSome made (λ new. names.is_name text.now ≡ true)) }
+        ensures none { IfOk result (λ made. IfNone made (names.is_name text.now ≡ false)) }
     {
         if !is_name(text) {
             return Ok(None);
@@ -50,7 +50,7 @@ impl Name {
     /// The text.
     pub fn as_str(&self) -> &str
         ensures text { result.now ≡ self.now }
-        ensures name { name self.now ≡ true }
+        ensures name { names.is_name self.now ≡ true }
     {
         self.text.as_str()
     }

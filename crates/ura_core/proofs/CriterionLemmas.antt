@@ -20,6 +20,7 @@ pub none_at_all : {A : Type 0} (P : A → Type 0) (xs : List A) (n : ℕ) → No
 none_at_all P xs n before all = some_none P xs (λ k x e h. let l = get_below xs k x e in before k x (omega (arith, l, all)) e h)
 
 -- there is a first one exactly where there is some
-pub some_told : {A : Type 0} (P : A → Type 0) (xs : List A) (told : Option ℕ) → IfSome told (IsFirst P xs) → IfNone told (Some_of P xs → ⊥) → IsTrue (is_some told) ↔ Some_of P xs
+pub some_told : {A : Type 0} (P : A → Type 0) (xs : List A) (told : Option ℕ) → IfSome told (IsFirst P xs) → IfNone told (Some_of P xs → ⊥)
+    → IsTrue (is_some told) ↔ Some_of P xs
 some_told P xs None found none = (λ no. absurd (false≢true no), λ h. absurd (none h))
 some_told P xs (Some place) found none = (λ yes. some_at P xs place found.item found.at found.holds, λ h. refl)

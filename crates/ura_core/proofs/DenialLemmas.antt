@@ -30,16 +30,19 @@ places_no users old admin target (NoCondition role rule) by set h a t = h
 places_no users old admin target (Exclusive role pair) by set h a t = h
 
 pub assign_no : (holder : Holder) (rules : Rules) (by set : List ℕ) (role : ℕ) (part : Part) → AssignFails holder rules by set role part
-    → Some_of (LetsAssign holder rules by set role) (assign_rules holder rules) → IsIn set role ⊎ (Some_of (Blocks rules.order.edges set role) (pairs_of holder rules) → ⊥) → ⊥
+    → Some_of (LetsAssign holder rules by set role) (assign_rules holder rules)
+    → IsIn set role ⊎ (Some_of (Blocks rules.order.edges set role) (pairs_of holder rules) → ⊥) → ⊥
 assign_no holder rules by set role (NoUser side place) h lets free = h
 assign_no holder rules by set role (NoRole r) h lets free =
     let one = some_item (LetsAssign holder rules by set role) (assign_rules holder rules) lets in
     let few : role < length rules.order.names = one.2.in_range.is_role in
     absurd (omega (arith, h.1))
 assign_no holder rules by set role (NoRange r) h lets free =
-    h.2 (some_weaker (LetsAssign holder rules by set role) (λ rule. IsInRange rules.order rule.range role) (λ rule l. l.in_range) (assign_rules holder rules) lets)
+    h.2 (some_weaker (LetsAssign holder rules by set role) (λ rule. IsInRange rules.order rule.range role) (λ rule l. l.in_range)
+    (assign_rules holder rules) lets)
 assign_no holder rules by set role (NoAdmin r place) h lets free =
-    h.2 (some_weaker (LetsAssign holder rules by set role) (λ rule. FitsRule rules by role rule.range rule.admin) (λ rule l. (l.in_range, l.by_admin)) (assign_rules holder rules) lets)
+    h.2 (some_weaker (LetsAssign holder rules by set role) (λ rule. FitsRule rules by role rule.range rule.admin) (λ rule l. (l.in_range, l.by_admin))
+    (assign_rules holder rules) lets)
 assign_no holder rules by set role (NoCondition r place) h lets free = h.2 lets
 assign_no holder rules by set role (Exclusive r place) h lets (inl held) = h.2 held
 assign_no holder rules by set role (Exclusive r place) h lets (inr none) =
@@ -60,7 +63,8 @@ revoke_no holder rules by role (Exclusive r place) h lets = h
 
 pub assign_denied_no : (holder : Holder) (rules : Rules) (users old : List (List ℕ)) (admin target role : ℕ) (part : Part) (new : List (List ℕ))
     → AssignDenied holder rules users old admin target role part → AssignStep holder rules users old admin target role new → ⊥
-assign_denied_no holder rules users old admin target role part new (inl h) step = places_no users old admin target part step.by step.set h step.by_is step.set_is
+assign_denied_no holder rules users old admin target role part new (inl h) step =
+    places_no users old admin target part step.by step.set h step.by_is step.set_is
 assign_denied_no holder rules users old admin target role part new (inr h) step =
     let same_by : step.by ≡ h.0 = cc (step.by_is, h.2) in
     let same_set : step.set ≡ h.1 = cc (step.set_is, h.3) in
@@ -90,7 +94,8 @@ weaks_denied_no holder rules users old admin target (role ∷ roles) part new (i
     weak_denied_no holder rules (admins_of holder users old) old admin target role part steps.0 h steps.1
 weaks_denied_no holder rules users old admin target (role ∷ roles) part new (inr h) steps =
     let same = weak_step_one holder rules (admins_of holder users old) old admin target role h.0 steps.0 h.1 steps.1 in
-    weaks_denied_no holder rules users steps.0 admin target roles part new (subst (λ m. WeaksDenied holder rules users m admin target roles part) same h.2) steps.2
+    weaks_denied_no holder rules users steps.0 admin target roles part new
+    (subst (λ m. WeaksDenied holder rules users m admin target roles part) same h.2) steps.2
 
 -- each role of weak steps is one of the order's
 pub weak_steps_role : (holder : Holder) (rules : Rules) (users old : List (List ℕ)) (admin target : ℕ) (roles : List ℕ) (new : List (List ℕ)) (role : ℕ)
@@ -99,7 +104,8 @@ weak_steps_role holder rules users old admin target [] new role steps h = cc
 weak_steps_role holder rules users old admin target (first ∷ roles) new role steps h =
     by_case (or_cases (eqb first role) (has_role roles role) h) (λ k. weak_steps_role holder rules users steps.0 admin target roles new role steps.2 k)
   where
-    by_case : (eqb first role ≡ true) ⊎ (has_role roles role ≡ true) → (has_role roles role ≡ true → role < length rules.order.names) → role < length rules.order.names
+    by_case : (eqb first role ≡ true) ⊎ (has_role roles role ≡ true) → (has_role roles role ≡ true → role < length rules.order.names)
+        → role < length rules.order.names
     by_case (inl e) rest =
         let one = some_item (LetsRevoke rules steps.1.by first) (revoke_rules holder rules) steps.1.lets in
         subst (λ r. r < length rules.order.names) (eqb-true first role e) one.2.in_range.is_role
@@ -119,20 +125,26 @@ strong_denied_no holder rules users old admin target role part new by (inr h) at
     there : has_role (falling holder rules.order h.1 role) role ≡ true
     there = has_role-with_role _ role role ∙ rw (eq-eqb role role refl) refl
 
-    by_case : ((part ≡ NoRole role) × (length rules.order.names ≤ role)) ⊎ ((role < length rules.order.names) × WeaksDenied holder rules users old admin target (falling holder rules.order h.1 role) part) → ⊥
-    by_case (inl k) = let few = weak_steps_role holder rules users old admin target (falling holder rules.order h.1 role) new role steps there in absurd (omega (arith, few, k.1))
+    by_case : ((part ≡ NoRole role) × (length rules.order.names ≤ role))
+        ⊎ ((role < length rules.order.names) × WeaksDenied holder rules users old admin target (falling holder rules.order h.1 role) part) → ⊥
+    by_case (inl k) = let few = weak_steps_role holder rules users old admin target (falling holder rules.order h.1 role) new role steps there in
+        absurd (omega (arith, few, k.1))
     by_case (inr k) = weaks_denied_no holder rules users old admin target (falling holder rules.order h.1 role) part new k.1 steps
 
 -- who takes roles away is there
 pub weak_steps_admin : (holder : Holder) (rules : Rules) (users old : List (List ℕ)) (admin target : ℕ) (roles : List ℕ) (new : List (List ℕ)) (role : ℕ)
-    → WeakSteps holder rules users old admin target roles new → has_role roles role ≡ true → (by : List ℕ) × (slice_get (admins_of holder users old) admin ≡ Some by)
+    → WeakSteps holder rules users old admin target roles new → has_role roles role ≡ true
+    → (by : List ℕ) × (slice_get (admins_of holder users old) admin ≡ Some by)
 weak_steps_admin holder rules users old admin target [] new role steps h = cc
 weak_steps_admin holder rules users old admin target (first ∷ roles) new role steps h = (steps.1.by, steps.1.by_is)
 
 pub kind_denied_no : (kind : ActKind) (holder : Holder) (rules : Rules) (users old : List (List ℕ)) (admin target role : ℕ) (part : Part) (new : List (List ℕ))
-    → admins_of holder users old ≡ users → KindDenied kind holder rules users old admin target role part → KindStep kind holder rules users old admin target role new → ⊥
-kind_denied_no Assign holder rules users old admin target role part new same denied step = assign_denied_no holder rules users old admin target role part new denied step
-kind_denied_no Weak holder rules users old admin target role part new same denied step = weak_denied_no holder rules users old admin target role part new denied step
+    → admins_of holder users old ≡ users → KindDenied kind holder rules users old admin target role part
+    → KindStep kind holder rules users old admin target role new → ⊥
+kind_denied_no Assign holder rules users old admin target role part new same denied step =
+    assign_denied_no holder rules users old admin target role part new denied step
+kind_denied_no Weak holder rules users old admin target role part new same denied step =
+    weak_denied_no holder rules users old admin target role part new denied step
 kind_denied_no Strong holder rules users old admin target role part new same denied step =
     let there : has_role (falling holder rules.order step.set role) role ≡ true = has_role-with_role _ role role ∙ rw (eq-eqb role role refl) refl in
     let by = weak_steps_admin holder rules users old admin target (falling holder rules.order step.set role) new role step.steps there in

@@ -27,7 +27,8 @@ around [] at rises h = cc
 around (x ∷ xs) at rises h = by_order (compare x at) (λ k. around xs at rises.1 k)
   where
     by_order : (x < at) ⊎ ((x ≡ at) ⊎ (at < x))
-        → (has_role xs at ≡ true → (rest : List ℕ) × (xs ≡ filter (λ x. nat_lt x at) xs ++ at ∷ rest) × (filter (λ x. nat_lt x (at + 1)) xs ≡ filter (λ x. nat_lt x at) xs ++ at ∷ []))
+        → (has_role xs at ≡ true → (rest : List ℕ) × (xs ≡ filter (λ x. nat_lt x at) xs ++ at ∷ rest)
+        × (filter (λ x. nat_lt x (at + 1)) xs ≡ filter (λ x. nat_lt x at) xs ++ at ∷ []))
         → (rest : List ℕ) × (x ∷ xs ≡ filter (λ x. nat_lt x at) (x ∷ xs) ++ at ∷ rest)
         × (filter (λ x. nat_lt x (at + 1)) (x ∷ xs) ≡ filter (λ x. nat_lt x at) (x ∷ xs) ++ at ∷ [])
     by_order (inl l) further =
@@ -62,7 +63,8 @@ pub below_same : (xs : List ℕ) (at : ℕ) → has_role xs at ≡ false → fil
 below_same [] at h = refl
 below_same (x ∷ xs) at h = by_test (eqb x at) refl (ltb x at) refl (λ k. below_same xs at k)
   where
-    by_test : (t : Bool) → eqb x at ≡ t → (s : Bool) → ltb x at ≡ s → (has_role xs at ≡ false → filter (λ x. nat_lt x (at + 1)) xs ≡ filter (λ x. nat_lt x at) xs)
+    by_test : (t : Bool) → eqb x at ≡ t → (s : Bool) → ltb x at ≡ s
+        → (has_role xs at ≡ false → filter (λ x. nat_lt x (at + 1)) xs ≡ filter (λ x. nat_lt x at) xs)
         → filter (λ x. nat_lt x (at + 1)) (x ∷ xs) ≡ filter (λ x. nat_lt x at) (x ∷ xs)
     by_test true e s a rest = let no : true ≡ false = rw e at h in cc
     by_test false e true a rest =
@@ -94,7 +96,8 @@ weak_steps_more holder rules users old mid new admin target [] role steps step =
 weak_steps_more holder rules users old mid new admin target (first ∷ roles) role steps step =
     (steps.0, steps.1, weak_steps_more holder rules users steps.0 mid new admin target roles role steps.2 step)
 
-pub weaks_denied_at : (holder : Holder) (rules : Rules) (users old mid : List (List ℕ)) (admin target : ℕ) (roles : List ℕ) (role : ℕ) (rest : List ℕ) (part : Part)
+pub weaks_denied_at : (holder : Holder) (rules : Rules) (users old mid : List (List ℕ)) (admin target : ℕ) (roles : List ℕ) (role : ℕ) (rest : List ℕ)
+    (part : Part)
     → WeakSteps holder rules users old admin target roles mid → WeakDenied holder rules (admins_of holder users mid) mid admin target role part
     → WeaksDenied holder rules users old admin target (roles ++ role ∷ rest) part
 weaks_denied_at holder rules users old mid admin target [] role rest part steps denied =

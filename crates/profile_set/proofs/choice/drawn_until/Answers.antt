@@ -20,8 +20,10 @@ loop-block-preserved c =
     let front = take c.loop-block.end c.args.choice.now in
     let next = c.first_spent-end.result in
     let ends : from + 1024 ≡ to = omega arith in
-    let few : AreFew c.args.profiles.now from to (take next front) = subst (λ n. AreFew c.args.profiles.now from n (take next front)) ends c.first_spent-end.ensures.few in
-    block_more c.args.profiles.now from to c.args.choice.now c.loop-block.end next c.loop-block.invariant c.first_spent-end.ensures.within few c.first_spent-end.ensures.spent
+    let few : AreFew c.args.profiles.now from to (take next front) =
+    subst (λ n. AreFew c.args.profiles.now from n (take next front)) ends c.first_spent-end.ensures.few in
+    block_more c.args.profiles.now from to c.args.choice.now c.loop-block.end next c.loop-block.invariant c.first_spent-end.ensures.within few
+    c.first_spent-end.ensures.spent
 
 -- no profile is behind the last block
 pub returns : goal.returns
@@ -30,8 +32,8 @@ returns c = record {
   drawn = record {
     places = λ k place e. get_there c.args.profiles.now place (c.loop-block.invariant.profiles_are k place e);
     few = λ place profile most e m.
-      let less = get_below c.args.profiles.now place profile e in
-      c.loop-block.invariant.few place profile most (omega arith) (omega (arith, less, c.div_ceil-block-end.ensures, c.loop-block-test.false)) e m;
+        let less = get_below c.args.profiles.now place profile e in
+        c.loop-block.invariant.few place profile most (omega arith) (omega (arith, less, c.div_ceil-block-end.ensures, c.loop-block-test.false)) e m;
   };
   spent = c.loop-block.invariant.spent;
 }

@@ -44,7 +44,7 @@ returns-then-not-has_left-clause-spent c = λ l.
     let x = slice_index_or xs c.loop-at.at 0 in
     let count = used_of c.args.from (take c.loop-at.at xs) x c.loop-at.used (omega arith) (omega arith) c.loop-at.invariant.uses in
     let left : has_left (slice_get ps x) (times x (take c.loop-at.at xs)) ≡ false =
-        ap (has_left (slice_get ps x)) (sym count) ∙ sym c.has_left.ensures ∙ c.if-not-has_left.true in
+    ap (has_left (slice_get ps x)) (sym count) ∙ sym c.has_left.ensures ∙ c.if-not-has_left.true in
     spent_at ps xs c.loop-at.at x (get_at xs c.loop-at.at 0 l) left
 
 -- no number stands more often before a place than there are places before it
@@ -56,6 +56,7 @@ overflow_add-used c =
     let few = times_few x xs c.loop-at.at in
     omega (arith, count, few, c.requires)
 
+-- the number is counted once more, and something of it was left
 pub loop-at-preserved : goal.loop-at-preserved
 loop-at-preserved c =
     let ps = c.args.profiles.now in
@@ -64,7 +65,7 @@ loop-at-preserved c =
     let here = get_at xs c.loop-at.at 0 (omega arith) in
     let count = used_of c.args.from (take c.loop-at.at xs) x c.loop-at.used (omega arith) (omega arith) c.loop-at.invariant.uses in
     let left : has_left (slice_get ps x) (times x (take c.loop-at.at xs)) ≡ true =
-        ap (has_left (slice_get ps x)) (sym count) ∙ sym c.has_left.ensures ∙ c.if-not-has_left.false in
+    ap (has_left (slice_get ps x)) (sym count) ∙ sym c.has_left.ensures ∙ c.if-not-has_left.false in
     record {
       long = length_set c.loop-at.used _ _ ∙ c.loop-at.invariant.long;
       uses = uses_here c.args.from xs c.loop-at.at x c.loop-at.used here (omega arith) (omega arith) c.loop-at.invariant.long c.loop-at.invariant.uses;

@@ -25,7 +25,7 @@ returns-then-not-before c =
     let sets = c.deref.result.now in
     let parts : IsPartitionedBy (λ p. set_before p.set set) sets = rw c.deref.ensures.value (parted set ps c.requires.rise) in
     let point : IsParting set ps at = subst (λ xs. IsParting set xs at) c.deref.ensures.value
-        (IsPartitionPoint-from_clause (λ p. set_before p.set set) sets at c.partition_point-at.ensures.partitioned parts (λ a r q k. search rules)) in
+    (IsPartitionPoint-from_clause (λ p. set_before p.set set) sets at c.partition_point-at.ensures.partitioned parts (λ a r q k. search rules)) in
     rw c.with_one.ensures (add_here set ps at two point here (subst (λ (p : Profile). set_before set p.set ≡ false) same after))
 
 -- the profile at the place, if there is one, has a later set
@@ -37,7 +37,7 @@ returns-in_ok-insert c =
     let sets = c.deref.result.now in
     let parts : IsPartitionedBy (λ p. set_before p.set set) sets = rw c.deref.ensures.value (parted set ps c.requires.rise) in
     let point : IsParting set ps at = subst (λ xs. IsParting set xs at) c.deref.ensures.value
-        (IsPartitionPoint-from_clause (λ p. set_before p.set set) sets at c.partition_point-at.ensures.partitioned parts (λ a r q k. search rules)) in
+    (IsPartitionPoint-from_clause (λ p. set_before p.set set) sets at c.partition_point-at.ensures.partitioned parts (λ a r q k. search rules)) in
     let added = add_new set ps at (omega arith) point in
     c.in_ok-insert.ensures.items ∙ elim c.else-at-len.branch [
       | else-at-len-via-then-at-len+else-not-before w ↦ added (λ p e.

@@ -1,9 +1,11 @@
 use Rattle.profile_set.proofs.SoleLemmas.{only_of, told_of, one_list}
 use Rattle.profile_set.proofs.members.read_members.Goals as goal
 
+-- what is read is the one list of rows that the bytes stand for, and bytes with rows have no fault
 pub returns-clause-only : goal.returns-clause-only
 returns-clause-only c = only_of c.args.order.now.names c.args.bytes.now c.read.result c.read.ensures.rows c.read.ensures.fault
 
+-- bytes with a fault stand for no rows, and have one first fault
 pub returns-clause-told : goal.returns-clause-told
 returns-clause-told c = told_of c.args.order.now.names c.args.bytes.now c.read.result c.read.ensures.rows c.read.ensures.fault
 
