@@ -108,10 +108,10 @@ none_left mask from e k l =
     has_bit_of_zero mask k (subst (λ q. bit_at mask q ≡ 0) at (sym (bit_at-shifted mask from (k - from)) ∙ rw e (bit_at-zero (k - from))))
 
 -- the lowest bit of what is left behind the place is the next one
-pub next_of_left : (mask from : ℕ) → mask < 2 ^ 128 → 0 < mask / 2 ^ from → IsNextBit mask from (from + trailing_zeros w128 (mask / 2 ^ from))
+pub next_of_left : (mask from : ℕ) → mask < 2 ^ MASK_BITS → 0 < mask / 2 ^ from → IsNextBit mask from (from + trailing_zeros w128 (mask / 2 ^ from))
 next_of_left mask from fits more = record {
   reached = omega arith;
-  within = by_order (ltb place 128) refl;
+  within = by_order (ltb place MASK_BITS) refl;
   set = has_bit_of_one mask place one;
   none_between = λ k l m.
       let at : from + (k - from) ≡ k = omega arith in
@@ -121,7 +121,7 @@ next_of_left mask from fits more = record {
     left : ℕ
     left = mask / 2 ^ from
 
-    lowest : (trailing_zeros w128 left < 128) × (bit_at left (trailing_zeros w128 left) ≡ 1) × ((i : ℕ) → i < trailing_zeros w128 left → bit_at left i ≡ 0)
+    lowest : (trailing_zeros w128 left < MASK_BITS) × (bit_at left (trailing_zeros w128 left) ≡ 1) × ((i : ℕ) → i < trailing_zeros w128 left → bit_at left i ≡ 0)
     lowest = bit_at-trailing_zeros w128 left more (omega (arith, shr_le mask from))
 
     place : ℕ
@@ -130,11 +130,11 @@ next_of_left mask from fits more = record {
     one : bit_at mask place ≡ 1
     one = sym (bit_at-shifted mask from (trailing_zeros w128 left)) ∙ lowest.1
 
-    by_order : (t : Bool) → ltb place 128 ≡ t → place < 128
+    by_order : (t : Bool) → ltb place MASK_BITS ≡ t → place < MASK_BITS
     by_order true e = grind (arith, nat_tests)
     by_order false e =
-        let past : 128 ≤ place = grind (arith, nat_tests) in
-        absurd (false≢true (sym (has_bit_above mask 128 place fits past) ∙ has_bit_of_one mask place one))
+        let past : MASK_BITS ≤ place = grind (arith, nat_tests) in
+        absurd (false≢true (sym (has_bit_above mask MASK_BITS place fits past) ∙ has_bit_of_one mask place one))
 
 has_role-count_up_past : (at n q : ℕ) → at + n ≤ q → has_role (count_up at n) q ≡ false
 has_role-count_up_past at zero q l = refl
@@ -154,8 +154,8 @@ rises-held_roles count low high = rises-filter (is_held low high) (count_up 0 co
 -- no bit of a number that is no role is set
 pub is_held_past : (low high q : ℕ) → AreMasks low high → MOST_ROLES ≤ q → is_held low high q ≡ false
 is_held_past low high q masks l =
-    let behind : ltb q 128 ≡ false = grind (arith, nat_tests) in
-    rw behind (has_bit_above high 122 (q - 128) masks.high_fits (omega arith))
+    let behind : ltb q MASK_BITS ≡ false = grind (arith, nat_tests) in
+    rw behind (has_bit_above high (MOST_ROLES - MASK_BITS) (q - MASK_BITS) masks.high_fits (omega arith))
 
 -- a set has just the roles whose bits are set
 pub has_role-masks : (low high : ℕ) → AreMasks low high → (q : ℕ) → has_role (held_roles MOST_ROLES low high) q ≡ is_held low high q
@@ -186,28 +186,28 @@ is_role_set low high masks = record {
 
 -- ---- the bit of a role in the mask that has it
 
-pub in_low : (low high q : ℕ) → q < 128 → is_held low high q ≡ has_bit low q
-in_low low high q l = let below : ltb q 128 ≡ true = grind (arith, nat_tests) in rw below refl
+pub in_low : (low high q : ℕ) → q < MASK_BITS → is_held low high q ≡ has_bit low q
+in_low low high q l = let below : ltb q MASK_BITS ≡ true = grind (arith, nat_tests) in rw below refl
 
-pub in_high : (low high q : ℕ) → 128 ≤ q → is_held low high q ≡ has_bit high (q - 128)
-in_high low high q l = let behind : ltb q 128 ≡ false = grind (arith, nat_tests) in rw behind refl
+pub in_high : (low high q : ℕ) → MASK_BITS ≤ q → is_held low high q ≡ has_bit high (q - MASK_BITS)
+in_high low high q l = let behind : ltb q MASK_BITS ≡ false = grind (arith, nat_tests) in rw behind refl
 
 -- ---- the empty set, a role more and a role less
 
 pub no_masks : AreMasks 0 0
-no_masks = record { low_fits = pow_pos 128; high_fits = pow_pos 122 }
+no_masks = record { low_fits = pow_pos MASK_BITS; high_fits = pow_pos (MOST_ROLES - MASK_BITS) }
 
 none_held : (q : ℕ) → is_held 0 0 q ≡ false
-none_held q = elim (ltb q 128) as (λ t. cond t (has_bit 0 q) (has_bit 0 (q - 128)) ≡ false) [ true ↦ no_bit q | false ↦ no_bit (q - 128) ]
+none_held q = elim (ltb q MASK_BITS) as (λ t. cond t (has_bit 0 q) (has_bit 0 (q - MASK_BITS)) ≡ false) [ true ↦ no_bit q | false ↦ no_bit (q - MASK_BITS) ]
 
 pub set_of_none : held_roles MOST_ROLES 0 0 ≡ []
 set_of_none = set_of_masks 0 0 [] no_masks tt none_held
 
-pub low_with : (low high r : ℕ) → AreMasks low high → r < 128 → AreMasks (bit_or low (2 ^ r)) high
-low_with low high r masks l = record { low_fits = or_lt 128 low (2 ^ r) masks.low_fits (pow_below r 128 l); high_fits = masks.high_fits }
+pub low_with : (low high r : ℕ) → AreMasks low high → r < MASK_BITS → AreMasks (bit_or low (2 ^ r)) high
+low_with low high r masks l = record { low_fits = or_lt MASK_BITS low (2 ^ r) masks.low_fits (pow_below r MASK_BITS l); high_fits = masks.high_fits }
 
-pub high_with : (low high r : ℕ) → AreMasks low high → r < 122 → AreMasks low (bit_or high (2 ^ r))
-high_with low high r masks l = record { low_fits = masks.low_fits; high_fits = or_lt 122 high (2 ^ r) masks.high_fits (pow_below r 122 l) }
+pub high_with : (low high r : ℕ) → AreMasks low high → r < (MOST_ROLES - MASK_BITS) → AreMasks low (bit_or high (2 ^ r))
+high_with low high r masks l = record { low_fits = masks.low_fits; high_fits = or_lt (MOST_ROLES - MASK_BITS) high (2 ^ r) masks.high_fits (pow_below r (MOST_ROLES - MASK_BITS) l) }
 
 turned_or : (a b : Bool) → (a || b) ≡ (b || a)
 turned_or true true = refl
@@ -223,45 +223,45 @@ turned_test : (a b : ℕ) → eqb a b ≡ eqb b a
 turned_test a b = same_test (eqb a b) (eqb b a) (λ s. let d : a ≡ b = eqb-true a b s in eq-eqb b a (sym d)) (λ s. let d : b ≡ a = eqb-true b a s in eq-eqb a b (sym d))
 
 -- two roles of the second mask are the same where their places in it are
-same_behind : (r q : ℕ) → 128 ≤ r → 128 ≤ q → eqb (r - 128) (q - 128) ≡ eqb r q
+same_behind : (r q : ℕ) → MASK_BITS ≤ r → MASK_BITS ≤ q → eqb (r - MASK_BITS) (q - MASK_BITS) ≡ eqb r q
 same_behind r q l m =
-    same_test (eqb (r - 128) (q - 128)) (eqb r q)
-    (λ s. eq-eqb r q (let d : r - 128 ≡ q - 128 = eqb-true (r - 128) (q - 128) s in omega arith))
-    (λ s. let d : r ≡ q = eqb-true r q s in eq-eqb (r - 128) (q - 128) (ap (λ n. n - 128) d))
+    same_test (eqb (r - MASK_BITS) (q - MASK_BITS)) (eqb r q)
+    (λ s. eq-eqb r q (let d : r - MASK_BITS ≡ q - MASK_BITS = eqb-true (r - MASK_BITS) (q - MASK_BITS) s in omega arith))
+    (λ s. let d : r ≡ q = eqb-true r q s in eq-eqb (r - MASK_BITS) (q - MASK_BITS) (ap (λ n. n - MASK_BITS) d))
 
 -- a role below the first mask's end, added
-pub set_with_low : (low high r : ℕ) → AreMasks low high → r < 128 → held_roles MOST_ROLES (bit_or low (2 ^ r)) high ≡ with_role (held_roles MOST_ROLES low high) r
+pub set_with_low : (low high r : ℕ) → AreMasks low high → r < MASK_BITS → held_roles MOST_ROLES (bit_or low (2 ^ r)) high ≡ with_role (held_roles MOST_ROLES low high) r
 set_with_low low high r masks l =
     set_of_masks (bit_or low (2 ^ r)) high (with_role set r) (low_with low high r masks l) (rises-with_role set r (rises-held_roles MOST_ROLES low high))
-    (λ q. held q (ltb q 128) refl ∙ ap (λ t. (r == q) || t) (sym (has_role-masks low high masks q)) ∙ sym (has_role-with_role set r q))
+    (λ q. held q (ltb q MASK_BITS) refl ∙ ap (λ t. (r == q) || t) (sym (has_role-masks low high masks q)) ∙ sym (has_role-with_role set r q))
   where
     set : List ℕ
     set = held_roles MOST_ROLES low high
 
-    held : (q : ℕ) (t : Bool) → ltb q 128 ≡ t → cond t (has_bit (bit_or low (2 ^ r)) q) (has_bit high (q - 128)) ≡ ((r == q) || cond t (has_bit low q) (has_bit high (q - 128)))
+    held : (q : ℕ) (t : Bool) → ltb q MASK_BITS ≡ t → cond t (has_bit (bit_or low (2 ^ r)) q) (has_bit high (q - MASK_BITS)) ≡ ((r == q) || cond t (has_bit low q) (has_bit high (q - MASK_BITS)))
     held q true e = has_bit-or low (2 ^ r) q ∙ ap (λ t. has_bit low q || t) (has_bit-pow r q) ∙ turned_or (has_bit low q) (eqb r q)
     held q false e = let other : eqb r q ≡ false = ne_eqb r q (λ s. absurd (grind (arith, nat_tests))) in rw other refl
 
 -- a role from the second mask's begin on, added
-pub set_with_high : (low high r : ℕ) → AreMasks low high → 128 ≤ r → r < MOST_ROLES → held_roles MOST_ROLES low (bit_or high (2 ^ (r - 128))) ≡ with_role (held_roles MOST_ROLES low high) r
+pub set_with_high : (low high r : ℕ) → AreMasks low high → MASK_BITS ≤ r → r < MOST_ROLES → held_roles MOST_ROLES low (bit_or high (2 ^ (r - MASK_BITS))) ≡ with_role (held_roles MOST_ROLES low high) r
 set_with_high low high r masks l m =
-    set_of_masks low (bit_or high (2 ^ (r - 128))) (with_role set r) (high_with low high (r - 128) masks (omega arith)) (rises-with_role set r (rises-held_roles MOST_ROLES low high))
-    (λ q. held q (ltb q 128) refl ∙ ap (λ t. (r == q) || t) (sym (has_role-masks low high masks q)) ∙ sym (has_role-with_role set r q))
+    set_of_masks low (bit_or high (2 ^ (r - MASK_BITS))) (with_role set r) (high_with low high (r - MASK_BITS) masks (omega arith)) (rises-with_role set r (rises-held_roles MOST_ROLES low high))
+    (λ q. held q (ltb q MASK_BITS) refl ∙ ap (λ t. (r == q) || t) (sym (has_role-masks low high masks q)) ∙ sym (has_role-with_role set r q))
   where
     set : List ℕ
     set = held_roles MOST_ROLES low high
 
-    held : (q : ℕ) (t : Bool) → ltb q 128 ≡ t → cond t (has_bit low q) (has_bit (bit_or high (2 ^ (r - 128))) (q - 128)) ≡ ((r == q) || cond t (has_bit low q) (has_bit high (q - 128)))
+    held : (q : ℕ) (t : Bool) → ltb q MASK_BITS ≡ t → cond t (has_bit low q) (has_bit (bit_or high (2 ^ (r - MASK_BITS))) (q - MASK_BITS)) ≡ ((r == q) || cond t (has_bit low q) (has_bit high (q - MASK_BITS)))
     held q true e = let other : eqb r q ≡ false = ne_eqb r q (λ s. absurd (grind (arith, nat_tests))) in rw other refl
     held q false e =
-        has_bit-or high (2 ^ (r - 128)) (q - 128)
-        ∙ ap (λ t. has_bit high (q - 128) || t) (has_bit-pow (r - 128) (q - 128) ∙ same_behind r q l (grind (arith, nat_tests)))
-        ∙ turned_or (has_bit high (q - 128)) (eqb r q)
+        has_bit-or high (2 ^ (r - MASK_BITS)) (q - MASK_BITS)
+        ∙ ap (λ t. has_bit high (q - MASK_BITS) || t) (has_bit-pow (r - MASK_BITS) (q - MASK_BITS) ∙ same_behind r q l (grind (arith, nat_tests)))
+        ∙ turned_or (has_bit high (q - MASK_BITS)) (eqb r q)
 
 -- ---- the roles of one or the other, of both, and of the first alone
 
 pub joined_masks : (a b c d : ℕ) → AreMasks a b → AreMasks c d → AreMasks (bit_or a c) (bit_or b d)
-joined_masks a b c d m n = record { low_fits = or_lt 128 a c m.low_fits n.low_fits; high_fits = or_lt 122 b d m.high_fits n.high_fits }
+joined_masks a b c d m n = record { low_fits = or_lt MASK_BITS a c m.low_fits n.low_fits; high_fits = or_lt (MOST_ROLES - MASK_BITS) b d m.high_fits n.high_fits }
 
 pub joined_set : (a b c d : ℕ) → AreMasks a b → AreMasks c d → held_roles MOST_ROLES (bit_or a c) (bit_or b d) ≡ join_roles (held_roles MOST_ROLES a b) (held_roles MOST_ROLES c d)
 joined_set a b c d m n =
@@ -276,8 +276,8 @@ joined_set a b c d m n =
 
     held : (q : ℕ) → is_held (bit_or a c) (bit_or b d) q ≡ (is_held a b q || is_held c d q)
     held q =
-        elim (ltb q 128) as (λ t. cond t (has_bit (bit_or a c) q) (has_bit (bit_or b d) (q - 128)) ≡ (cond t (has_bit a q) (has_bit b (q - 128)) || cond t (has_bit c q) (has_bit d (q - 128))))
-        [ true ↦ has_bit-or a c q | false ↦ has_bit-or b d (q - 128) ]
+        elim (ltb q MASK_BITS) as (λ t. cond t (has_bit (bit_or a c) q) (has_bit (bit_or b d) (q - MASK_BITS)) ≡ (cond t (has_bit a q) (has_bit b (q - MASK_BITS)) || cond t (has_bit c q) (has_bit d (q - MASK_BITS))))
+        [ true ↦ has_bit-or a c q | false ↦ has_bit-or b d (q - MASK_BITS) ]
 
 -- ---- both, the first alone, and those that differ
 
@@ -299,24 +299,24 @@ common_set a b c d m n =
 
     held : (q : ℕ) → is_held (bit_and a c) (bit_and b d) q ≡ (is_held a b q && is_held c d q)
     held q =
-        elim (ltb q 128) as (λ t. cond t (has_bit (bit_and a c) q) (has_bit (bit_and b d) (q - 128)) ≡ (cond t (has_bit a q) (has_bit b (q - 128)) && cond t (has_bit c q) (has_bit d (q - 128))))
-        [ true ↦ has_bit-and a c q | false ↦ has_bit-and b d (q - 128) ]
+        elim (ltb q MASK_BITS) as (λ t. cond t (has_bit (bit_and a c) q) (has_bit (bit_and b d) (q - MASK_BITS)) ≡ (cond t (has_bit a q) (has_bit b (q - MASK_BITS)) && cond t (has_bit c q) (has_bit d (q - MASK_BITS))))
+        [ true ↦ has_bit-and a c q | false ↦ has_bit-and b d (q - MASK_BITS) ]
 
 -- `a & !c` has the bits of the first that the second lacks
-pub has_bit-less : (a c k : ℕ) → a < 2 ^ 128 → c < 2 ^ 128 → has_bit (bit_and a (bit_not w128 c)) k ≡ (has_bit a k && not (has_bit c k))
-has_bit-less a c k m n = has_bit-and a (bit_not w128 c) k ∙ by_order (ltb k 128) refl
+pub has_bit-less : (a c k : ℕ) → a < 2 ^ MASK_BITS → c < 2 ^ MASK_BITS → has_bit (bit_and a (bit_not w128 c)) k ≡ (has_bit a k && not (has_bit c k))
+has_bit-less a c k m n = has_bit-and a (bit_not w128 c) k ∙ by_order (ltb k MASK_BITS) refl
   where
-    by_bit : k < 128 → (t : Bool) → has_bit c k ≡ t → has_bit (bit_not w128 c) k ≡ not t
+    by_bit : k < MASK_BITS → (t : Bool) → has_bit c k ≡ t → has_bit (bit_not w128 c) k ≡ not t
     by_bit l true e = has_bit_of_zero (bit_not w128 c) k (bit_at_not w128 c k n l ∙ rw (bit_of_true c k e) refl)
     by_bit l false e = has_bit_of_one (bit_not w128 c) k (bit_at_not w128 c k n l ∙ rw (bit_of_false c k e) refl)
 
-    by_order : (t : Bool) → ltb k 128 ≡ t → (has_bit a k && has_bit (bit_not w128 c) k) ≡ (has_bit a k && not (has_bit c k))
-    by_order true e = let l : k < 128 = grind (arith, nat_tests) in ap (λ t. has_bit a k && t) (by_bit l (has_bit c k) refl)
-    by_order false e = let l : 128 ≤ k = grind (arith, nat_tests) in rw (has_bit_above a 128 k m l) refl
+    by_order : (t : Bool) → ltb k MASK_BITS ≡ t → (has_bit a k && has_bit (bit_not w128 c) k) ≡ (has_bit a k && not (has_bit c k))
+    by_order true e = let l : k < MASK_BITS = grind (arith, nat_tests) in ap (λ t. has_bit a k && t) (by_bit l (has_bit c k) refl)
+    by_order false e = let l : MASK_BITS ≤ k = grind (arith, nat_tests) in rw (has_bit_above a MASK_BITS k m l) refl
 
 -- a high mask is below a whole one
-wide : (mask : ℕ) → mask < 2 ^ 122 → mask < 2 ^ 128
-wide mask l = omega (arith, l, pow_below 122 128 (omega arith))
+wide : (mask : ℕ) → mask < 2 ^ (MOST_ROLES - MASK_BITS) → mask < 2 ^ MASK_BITS
+wide mask l = omega (arith, l, pow_below (MOST_ROLES - MASK_BITS) MASK_BITS (omega arith))
 
 lesser_masks : (a b c d : ℕ) → AreMasks a b → AreMasks (bit_and a (bit_not w128 c)) (bit_and b (bit_not w128 d))
 lesser_masks a b c d m = common_masks a b (bit_not w128 c) (bit_not w128 d) m
@@ -337,16 +337,16 @@ lesser_set a b c d m n =
 
     held : (q : ℕ) → is_held (bit_and a (bit_not w128 c)) (bit_and b (bit_not w128 d)) q ≡ (is_held a b q && not (is_held c d q))
     held q =
-        elim (ltb q 128) as (λ t. cond t (has_bit (bit_and a (bit_not w128 c)) q) (has_bit (bit_and b (bit_not w128 d)) (q - 128))
-        ≡ (cond t (has_bit a q) (has_bit b (q - 128)) && not (cond t (has_bit c q) (has_bit d (q - 128)))))
-        [ true ↦ has_bit-less a c q m.low_fits n.low_fits | false ↦ has_bit-less b d (q - 128) (wide b m.high_fits) (wide d n.high_fits) ]
+        elim (ltb q MASK_BITS) as (λ t. cond t (has_bit (bit_and a (bit_not w128 c)) q) (has_bit (bit_and b (bit_not w128 d)) (q - MASK_BITS))
+        ≡ (cond t (has_bit a q) (has_bit b (q - MASK_BITS)) && not (cond t (has_bit c q) (has_bit d (q - MASK_BITS)))))
+        [ true ↦ has_bit-less a c q m.low_fits n.low_fits | false ↦ has_bit-less b d (q - MASK_BITS) (wide b m.high_fits) (wide d n.high_fits) ]
 
 -- a role below the first mask's end, taken out
-pub set_without_low : (low high r : ℕ) → AreMasks low high → r < 128
+pub set_without_low : (low high r : ℕ) → AreMasks low high → r < MASK_BITS
     → held_roles MOST_ROLES (bit_and low (bit_not w128 (2 ^ r))) high ≡ without_role (held_roles MOST_ROLES low high) r
 set_without_low low high r masks l =
     set_of_masks (bit_and low (bit_not w128 (2 ^ r))) high (without_role set r) fits (rises-filter (λ x. not (x == r)) set (rises-held_roles MOST_ROLES low high))
-    (λ q. held q (ltb q 128) refl ∙ ap (λ t. t && not (q == r)) (sym (has_role-masks low high masks q)) ∙ sym (has_role-filter (λ x. not (x == r)) set q))
+    (λ q. held q (ltb q MASK_BITS) refl ∙ ap (λ t. t && not (q == r)) (sym (has_role-masks low high masks q)) ∙ sym (has_role-filter (λ x. not (x == r)) set q))
   where
     set : List ℕ
     set = held_roles MOST_ROLES low high
@@ -354,35 +354,35 @@ set_without_low low high r masks l =
     fits : AreMasks (bit_and low (bit_not w128 (2 ^ r))) high
     fits = record { low_fits = omega (arith, masks.low_fits, and_le_l low (bit_not w128 (2 ^ r))); high_fits = masks.high_fits }
 
-    held : (q : ℕ) (t : Bool) → ltb q 128 ≡ t
-        → cond t (has_bit (bit_and low (bit_not w128 (2 ^ r))) q) (has_bit high (q - 128)) ≡ (cond t (has_bit low q) (has_bit high (q - 128)) && not (q == r))
+    held : (q : ℕ) (t : Bool) → ltb q MASK_BITS ≡ t
+        → cond t (has_bit (bit_and low (bit_not w128 (2 ^ r))) q) (has_bit high (q - MASK_BITS)) ≡ (cond t (has_bit low q) (has_bit high (q - MASK_BITS)) && not (q == r))
     held q true e =
-        has_bit-less low (2 ^ r) q masks.low_fits (pow_below r 128 l) ∙ ap (λ t. has_bit low q && not t) (has_bit-pow r q ∙ turned_test r q)
-    held q false e = let other : eqb q r ≡ false = ne_eqb q r (λ s. absurd (grind (arith, nat_tests))) in rw other (sym (and_true (has_bit high (q - 128))))
+        has_bit-less low (2 ^ r) q masks.low_fits (pow_below r MASK_BITS l) ∙ ap (λ t. has_bit low q && not t) (has_bit-pow r q ∙ turned_test r q)
+    held q false e = let other : eqb q r ≡ false = ne_eqb q r (λ s. absurd (grind (arith, nat_tests))) in rw other (sym (and_true (has_bit high (q - MASK_BITS))))
 
 -- a role from the second mask's begin on, taken out
-pub set_without_high : (low high r : ℕ) → AreMasks low high → 128 ≤ r → r < 256
-    → held_roles MOST_ROLES low (bit_and high (bit_not w128 (2 ^ (r - 128)))) ≡ without_role (held_roles MOST_ROLES low high) r
+pub set_without_high : (low high r : ℕ) → AreMasks low high → MASK_BITS ≤ r → r < 2 * MASK_BITS
+    → held_roles MOST_ROLES low (bit_and high (bit_not w128 (2 ^ (r - MASK_BITS)))) ≡ without_role (held_roles MOST_ROLES low high) r
 set_without_high low high r masks l m =
-    set_of_masks low (bit_and high (bit_not w128 (2 ^ (r - 128)))) (without_role set r) fits (rises-filter (λ x. not (x == r)) set (rises-held_roles MOST_ROLES low high))
-    (λ q. held q (ltb q 128) refl ∙ ap (λ t. t && not (q == r)) (sym (has_role-masks low high masks q)) ∙ sym (has_role-filter (λ x. not (x == r)) set q))
+    set_of_masks low (bit_and high (bit_not w128 (2 ^ (r - MASK_BITS)))) (without_role set r) fits (rises-filter (λ x. not (x == r)) set (rises-held_roles MOST_ROLES low high))
+    (λ q. held q (ltb q MASK_BITS) refl ∙ ap (λ t. t && not (q == r)) (sym (has_role-masks low high masks q)) ∙ sym (has_role-filter (λ x. not (x == r)) set q))
   where
     set : List ℕ
     set = held_roles MOST_ROLES low high
 
-    fits : AreMasks low (bit_and high (bit_not w128 (2 ^ (r - 128))))
-    fits = record { low_fits = masks.low_fits; high_fits = omega (arith, masks.high_fits, and_le_l high (bit_not w128 (2 ^ (r - 128)))) }
+    fits : AreMasks low (bit_and high (bit_not w128 (2 ^ (r - MASK_BITS))))
+    fits = record { low_fits = masks.low_fits; high_fits = omega (arith, masks.high_fits, and_le_l high (bit_not w128 (2 ^ (r - MASK_BITS)))) }
 
-    held : (q : ℕ) (t : Bool) → ltb q 128 ≡ t
-        → cond t (has_bit low q) (has_bit (bit_and high (bit_not w128 (2 ^ (r - 128)))) (q - 128)) ≡ (cond t (has_bit low q) (has_bit high (q - 128)) && not (q == r))
+    held : (q : ℕ) (t : Bool) → ltb q MASK_BITS ≡ t
+        → cond t (has_bit low q) (has_bit (bit_and high (bit_not w128 (2 ^ (r - MASK_BITS)))) (q - MASK_BITS)) ≡ (cond t (has_bit low q) (has_bit high (q - MASK_BITS)) && not (q == r))
     held q true e = let other : eqb q r ≡ false = ne_eqb q r (λ s. absurd (grind (arith, nat_tests))) in rw other (sym (and_true (has_bit low q)))
     held q false e =
-        let from : 128 ≤ q = grind (arith, nat_tests) in
-        has_bit-less high (2 ^ (r - 128)) (q - 128) (wide high masks.high_fits) (pow_below (r - 128) 128 (omega arith))
-        ∙ ap (λ t. has_bit high (q - 128) && not t) (has_bit-pow (r - 128) (q - 128) ∙ same_behind r q l from ∙ turned_test r q)
+        let from : MASK_BITS ≤ q = grind (arith, nat_tests) in
+        has_bit-less high (2 ^ (r - MASK_BITS)) (q - MASK_BITS) (wide high masks.high_fits) (pow_below (r - MASK_BITS) MASK_BITS (omega arith))
+        ∙ ap (λ t. has_bit high (q - MASK_BITS) && not t) (has_bit-pow (r - MASK_BITS) (q - MASK_BITS) ∙ same_behind r q l from ∙ turned_test r q)
 
 -- a number that is no role, taken out
-pub set_without_none : (low high r : ℕ) → AreMasks low high → 256 ≤ r → held_roles MOST_ROLES low high ≡ without_role (held_roles MOST_ROLES low high) r
+pub set_without_none : (low high r : ℕ) → AreMasks low high → 2 * MASK_BITS ≤ r → held_roles MOST_ROLES low high ≡ without_role (held_roles MOST_ROLES low high) r
 set_without_none low high r masks l =
     set_of_masks low high (without_role set r) masks (rises-filter (λ x. not (x == r)) set (rises-held_roles MOST_ROLES low high))
     (λ q. held q (eqb q r) refl ∙ ap (λ t. t && not (q == r)) (sym (has_role-masks low high masks q)) ∙ sym (has_role-filter (λ x. not (x == r)) set q))
@@ -398,7 +398,7 @@ set_without_none low high r masks l =
 
 -- the roles that one has and the other lacks
 pub differing_masks : (a b c d : ℕ) → AreMasks a b → AreMasks c d → AreMasks (bit_xor a c) (bit_xor b d)
-differing_masks a b c d m n = record { low_fits = xor_lt 128 a c m.low_fits n.low_fits; high_fits = xor_lt 122 b d m.high_fits n.high_fits }
+differing_masks a b c d m n = record { low_fits = xor_lt MASK_BITS a c m.low_fits n.low_fits; high_fits = xor_lt (MOST_ROLES - MASK_BITS) b d m.high_fits n.high_fits }
 
 pub has_role-differing : (a b c d : ℕ) → AreMasks a b → AreMasks c d → (q : ℕ)
     → has_role (held_roles MOST_ROLES (bit_xor a c) (bit_xor b d)) q
@@ -406,10 +406,10 @@ pub has_role-differing : (a b c d : ℕ) → AreMasks a b → AreMasks c d → (
     || (has_role (held_roles MOST_ROLES c d) q && not (has_role (held_roles MOST_ROLES a b) q)))
 has_role-differing a b c d m n q =
     rw (has_role-masks (bit_xor a c) (bit_xor b d) (differing_masks a b c d m n) q, has_role-masks a b m q, has_role-masks c d n q)
-    (elim (ltb q 128) as (λ t. cond t (has_bit (bit_xor a c) q) (has_bit (bit_xor b d) (q - 128))
-    ≡ ((cond t (has_bit a q) (has_bit b (q - 128)) && not (cond t (has_bit c q) (has_bit d (q - 128))))
-    || (cond t (has_bit c q) (has_bit d (q - 128)) && not (cond t (has_bit a q) (has_bit b (q - 128))))))
-    [ true ↦ has_bit-xor a c q | false ↦ has_bit-xor b d (q - 128) ])
+    (elim (ltb q MASK_BITS) as (λ t. cond t (has_bit (bit_xor a c) q) (has_bit (bit_xor b d) (q - MASK_BITS))
+    ≡ ((cond t (has_bit a q) (has_bit b (q - MASK_BITS)) && not (cond t (has_bit c q) (has_bit d (q - MASK_BITS))))
+    || (cond t (has_bit c q) (has_bit d (q - MASK_BITS)) && not (cond t (has_bit a q) (has_bit b (q - MASK_BITS))))))
+    [ true ↦ has_bit-xor a c q | false ↦ has_bit-xor b d (q - MASK_BITS) ])
 
 -- ---- sets that are equal, and the empty one
 
@@ -505,12 +505,12 @@ length-held_roles m n low high width low_fits high_fits =
     in_low : (k : ℕ) → k < m → is_held low high (0 + k) ≡ has_bit low k
     in_low k l =
         let at : 0 + k ≡ k = omega arith in
-        let below : ltb k 128 ≡ true = grind (arith, nat_tests) in rw (at, below) refl
+        let below : ltb k MASK_BITS ≡ true = grind (arith, nat_tests) in rw (at, below) refl
 
     in_high : (k : ℕ) → k < n → is_held low high ((0 + m) + k) ≡ has_bit high k
     in_high k l =
-        let at : ((0 + m) + k) - 128 ≡ k = omega arith in
-        let behind : ltb ((0 + m) + k) 128 ≡ false = grind (arith, nat_tests) in rw (behind, at) refl
+        let at : ((0 + m) + k) - MASK_BITS ≡ k = omega arith in
+        let behind : ltb ((0 + m) + k) MASK_BITS ≡ false = grind (arith, nat_tests) in rw (behind, at) refl
 
 -- ---- the least role from a number on
 
@@ -523,24 +523,24 @@ first_in_low low high from place masks next = record {
 }
 
 -- the low mask has none, and the high one does
-pub first_in_high : (low high from place : ℕ) → AreMasks low high → ((k : ℕ) → from ≤ k → has_bit low k ≡ false) → IsNextBit high (from - 128) place
-    → IsFirstFrom (held_roles MOST_ROLES low high) from (128 + place)
+pub first_in_high : (low high from place : ℕ) → AreMasks low high → ((k : ℕ) → from ≤ k → has_bit low k ≡ false) → IsNextBit high (from - MASK_BITS) place
+    → IsFirstFrom (held_roles MOST_ROLES low high) from (MASK_BITS + place)
 first_in_high low high from place masks none next = record {
-  there = has_role-masks low high masks (128 + place) ∙ in_high low high (128 + place) (omega arith)
-      ∙ (let at : (128 + place) - 128 ≡ place = omega arith in rw at next.set);
+  there = has_role-masks low high masks (MASK_BITS + place) ∙ in_high low high (MASK_BITS + place) (omega arith)
+      ∙ (let at : (MASK_BITS + place) - MASK_BITS ≡ place = omega arith in rw at next.set);
   reached = omega (arith, next.reached);
-  none_between = λ other l m. has_role-masks low high masks other ∙ by_half other l m (ltb other 128) refl;
+  none_between = λ other l m. has_role-masks low high masks other ∙ by_half other l m (ltb other MASK_BITS) refl;
 }
   where
-    by_half : (other : ℕ) → from ≤ other → other < 128 + place → (t : Bool) → ltb other 128 ≡ t → cond t (has_bit low other) (has_bit high (other - 128)) ≡ false
+    by_half : (other : ℕ) → from ≤ other → other < MASK_BITS + place → (t : Bool) → ltb other MASK_BITS ≡ t → cond t (has_bit low other) (has_bit high (other - MASK_BITS)) ≡ false
     by_half other l m true e = none other l
     by_half other l m false e =
-        let behind : 128 ≤ other = grind (arith, nat_tests) in
-        next.none_between (other - 128) (omega arith) (omega arith)
+        let behind : MASK_BITS ≤ other = grind (arith, nat_tests) in
+        next.none_between (other - MASK_BITS) (omega arith) (omega arith)
 
 -- neither has
-pub none_from : (low high from : ℕ) → AreMasks low high → ((k : ℕ) → from ≤ k → has_bit low k ≡ false) → ((k : ℕ) → from - 128 ≤ k → has_bit high k ≡ false)
+pub none_from : (low high from : ℕ) → AreMasks low high → ((k : ℕ) → from ≤ k → has_bit low k ≡ false) → ((k : ℕ) → from - MASK_BITS ≤ k → has_bit high k ≡ false)
     → (role : ℕ) → from ≤ role → has_role (held_roles MOST_ROLES low high) role ≡ false
 none_from low high from masks none nor role l =
     has_role-masks low high masks role
-    ∙ (elim (ltb role 128) as (λ t. cond t (has_bit low role) (has_bit high (role - 128)) ≡ false) [ true ↦ none role l | false ↦ nor (role - 128) (omega arith) ])
+    ∙ (elim (ltb role MASK_BITS) as (λ t. cond t (has_bit low role) (has_bit high (role - MASK_BITS)) ≡ false) [ true ↦ none role l | false ↦ nor (role - MASK_BITS) (omega arith) ])

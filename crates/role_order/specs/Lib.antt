@@ -8,3 +8,4 @@ pub mod Reach
 pub mod Closures
 pub mod Ranges
 pub mod Refusals
+pub mod Kept

@@ -80,7 +80,7 @@ abbrev pub Rises : List ℕ → Type 0
 Rises [] = Unit {0}
 Rises (x ∷ xs) = Each (λ y. x < y) xs × Rises xs
 
--- the list of a role set: it rises strictly, and each role is below 250
+-- the list of a role set: it rises strictly, and each role is below MOST_ROLES
 pub record IsRoleSet (set : List ℕ) : Type 0 where
   pub rises : Rises set
   pub below : AreBelow MOST_ROLES set

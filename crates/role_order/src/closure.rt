@@ -1,9 +1,10 @@
 //! Which role is above which, made once from the edges.
 
-ghost use Rattle.std.specs.Prelude.{◌≡◌, ◌<◌, ◌≤◌, length, [], IfOk, IfSome, IfNone, Some};
+ghost use Rattle.std.specs.Prelude.{ℕ, ◌≡◌, ◌<◌, ◌≤◌, ◌↔◌, length, [], IfOk, IfSome, IfNone, Some};
 ghost use Rattle.role_order.specs.Graph.{AreEdges, IsEdge, IsCycle, AreAcyclic};
 ghost use Rattle.list_words.specs.Lists.{IsFirst};
-ghost use Rattle.role_order.specs.Closures.{AreAbove, IfTable, IfCycle, raised, raised_set};
+ghost use Rattle.role_order.specs.Closures.{AreAbove, HasAt, AreTurned, IfTable, IfCycle, raised, raised_set};
+ghost use Rattle.role_order.specs.Roles.{IsIn, Rises};
 
 use crate::MOST_ROLES;
 use crate::role_set::RoleSet;
@@ -79,4 +80,31 @@ pub fn close(alloc: Global, count: u16, edges: &[(u16, u16)]) -> Result<Closure,
         add_edge(&mut above, senior, junior);
     }
     Ok(Closure::Table(above))
+}
+
+/// The roles whose sets have the senior.
+fn juniors_in(above: &[RoleSet], senior: u16) -> RoleSet
+    requires { length above.now ≤ MOST_ROLES }
+    ensures rises { Rises result }
+    ensures each { (junior : ℕ) → IsIn result junior ↔ HasAt above.now junior senior }
+{
+    let mut juniors = RoleSet::empty();
+    for (junior, set) in above.iter().enumerate() {
+        if set.has(senior) {
+            juniors = juniors.with(junior as u16);
+        }
+    }
+    juniors
+}
+
+/// The sets of the roles below each role, of those of the roles above each.
+pub fn turn_sets(alloc: Global, above: &[RoleSet]) -> Result<Vec<RoleSet>, AllocError>
+    requires { length above.now ≤ MOST_ROLES }
+    ensures { IfOk result (λ below. AreTurned above.now (length above.now) below.items) }
+{
+    let mut below = Vec::new(alloc);
+    for senior in 0..above.len() as u16 {
+        below.push(juniors_in(above, senior))?;
+    }
+    Ok(below)
 }

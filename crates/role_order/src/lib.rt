@@ -3,6 +3,7 @@
 
 mod closure;
 mod mask;
+mod name_table;
 mod names;
 mod order;
 mod range;

@@ -193,6 +193,9 @@ fn the_most_roles_are_250_in_one_chain(rt: HostRuntime) -> Result<(), Fail> {
                 assert!(rt; middle.has(99) && !middle.has(100), "of {count}");
                 assert_eq!(rt; order.role_named("z"), Some(count - 1));
                 assert_eq!(rt; order.role_named("r0"), None);
+                for role in 0..count {
+                    assert_eq!(rt; order.role_named(order.name(role)), Some(role));
+                }
             }
             Err(error) => assert_eq!(rt; Some(error), want, "of {count}"),
         }
@@ -225,6 +228,7 @@ fn a_range_of_the_department_has_its_roles(rt: HostRuntime) -> Result<(), Fail> 
             low_open: *low_open,
             high_open: *high_open,
         };
+        let roles = order.roles_of(&range);
         for role in 0..order.count() {
             let name = order.name(role);
             let want = texts.iter().any(|text| *text == name);
@@ -233,6 +237,7 @@ fn a_range_of_the_department_has_its_roles(rt: HostRuntime) -> Result<(), Fail> 
                 want,
                 "{name} of {low} {high}"
             );
+            assert_eq!(rt; roles.has(role), want, "{name} of {low} {high}");
         }
     }
     Ok(())
@@ -247,6 +252,8 @@ fn a_reversed_order_turns_each_edge(rt: HostRuntime) -> Result<(), Fail> {
     assert!(rt; back.geq(1, 0) && !back.geq(0, 1));
     assert_eq!(rt; back.edges(), [(1, 0)].as_slice());
     assert_eq!(rt; back.name(1), "b");
+    assert_eq!(rt; back.role_named("b"), Some(1));
+    assert!(rt; back.seniors(0) == back.juniors(1) && back.juniors(0).len() == 1);
     Ok(())
 }
 
