@@ -27,7 +27,8 @@ length_counts [] = refl
 length_counts (p ∷ ps) = ap suc (length_counts ps)
 
 -- the capacity of a profile's place is its count
-capacity_there : (profiles : List Profile) (place : ℕ) (profile : Profile) → slice_get profiles place ≡ Some profile → capacity_at (counts profiles) place ≡ profile.most
+capacity_there : (profiles : List Profile) (place : ℕ) (profile : Profile) → slice_get profiles place ≡ Some profile
+    → capacity_at (counts profiles) place ≡ profile.most
 capacity_there [] place profile is = cc
 capacity_there (p ∷ ps) zero profile is = let is' : Some p ≡ Some profile = is in let same : p ≡ profile = cc in ap (λ (q : Profile). q.most) same
 capacity_there (p ∷ ps) (suc place) profile is = capacity_there ps place profile is
@@ -52,7 +53,8 @@ abbrev pub ServedAt : List Profile → List Need → ℕ → ℕ → Type 0
 ServedAt profiles needs = JoinsAt (λ (need : Need) (profile : Profile). MeetsNeed need profile.set) needs profiles
 
 -- the joined pairs are the serving ones
-pub pairs_serving : (profiles : List Profile) (needs : List Need) (pairs : List (ℕ × ℕ)) → AreJoined (ServedAt profiles needs) (length needs) (length (counts profiles)) pairs
+pub pairs_serving : (profiles : List Profile) (needs : List Need) (pairs : List (ℕ × ℕ))
+    → AreJoined (ServedAt profiles needs) (length needs) (length (counts profiles)) pairs
     → AreServing profiles needs pairs
 pairs_serving profiles needs pairs joined k u = (λ h. let one = ((joined k u).0 h).2 in (one.0, one.2, (one.1, one.3, one.4)), from)
   where
@@ -107,11 +109,13 @@ least_serves profiles needs list (pairs, joined, m) =
 
 -- users and the places that they are drawn from
 
-drawn_users : (profiles : List Profile) (choice : List ℕ) → ((k place : ℕ) → slice_get choice k ≡ Some place → (profile : Profile) × (slice_get profiles place ≡ Some profile))
+drawn_users : (profiles : List Profile) (choice : List ℕ)
+    → ((k place : ℕ) → slice_get choice k ≡ Some place → (profile : Profile) × (slice_get profiles place ≡ Some profile))
     → (users : List (List ℕ)) × AreUsers profiles choice users
 drawn_users profiles [] places = ([], tt)
 drawn_users profiles (p ∷ ps) places =
-    let one = places 0 p refl in let rest = drawn_users profiles ps (λ k place is. places (suc k) place is) in (one.0.set ∷ rest.0, ((one.0, one.1, refl), rest.1))
+    let one = places 0 p refl in let rest = drawn_users profiles ps (λ k place is. places (suc k) place is) in
+    (one.0.set ∷ rest.0, ((one.0, one.1, refl), rest.1))
 
 user_at : (profiles : List Profile) (choice : List ℕ) (users : List (List ℕ)) → AreUsers profiles choice users → (i place : ℕ) (profile : Profile)
     → slice_get choice i ≡ Some place → slice_get profiles place ≡ Some profile → slice_get users i ≡ Some profile.set
@@ -125,7 +129,8 @@ user_at profiles (p ∷ ps) (u ∷ us) are zero place profile at is =
     ap Some (are.0.2 ∙ ap (λ (q : Profile). q.set) same)
 user_at profiles (p ∷ ps) (u ∷ us) are (suc i) place profile at is = user_at profiles ps us are.1 i place profile at is
 
-place_at : (profiles : List Profile) (choice : List ℕ) (users : List (List ℕ)) → AreUsers profiles choice users → (i : ℕ) (set : List ℕ) → slice_get users i ≡ Some set
+place_at : (profiles : List Profile) (choice : List ℕ) (users : List (List ℕ)) → AreUsers profiles choice users → (i : ℕ) (set : List ℕ)
+    → slice_get users i ≡ Some set
     → (place : ℕ) × (slice_get choice i ≡ Some place) × (profile : Profile) × (slice_get profiles place ≡ Some profile) × (set ≡ profile.set)
 place_at profiles [] [] are i set is = cc
 place_at profiles [] (u ∷ us) are i set is = absurd are
@@ -196,12 +201,14 @@ drawn_serves profiles needs users drawn met = record { drawn = record { places =
     few : (place : ℕ) (profile : Profile) (most : ℕ) → slice_get profiles place ≡ Some profile → profile.most ≡ Some most → times place list ≤ most
     few place profile most is e =
         let fewer : count (λ given. given == place) list ≤ count (λ given. given == place) drawn.choice =
-        counted (λ (x y : ℕ). x ≡ y) (λ given. given == place) (λ given. given == place) (λ x y same h. subst (λ n. (n == place) ≡ true) same h) list drawn.choice into in
+        counted (λ (x y : ℕ). x ≡ y) (λ given. given == place) (λ given. given == place)
+        (λ x y same h. subst (λ n. (n == place) ≡ true) same h) list drawn.choice into in
         omega (arith, fewer, count_times place list, count_times place drawn.choice, drawn.drawn.few place profile most is e)
 
 -- where the pairs have no matching, no drawn users meet the requirement
 pub none_unmet : (profiles : List Profile) (needs : List Need)
-    → OfPairs (ServedAt profiles needs) (length needs) (length (counts profiles)) (λ pairs. (list : List ℕ) → ¬ IsMatching (length needs) (counts profiles) pairs list)
+    → OfPairs (ServedAt profiles needs) (length needs) (length (counts profiles))
+    (λ pairs. (list : List ℕ) → ¬ IsMatching (length needs) (counts profiles) pairs list)
     → IsUnmet profiles needs
 none_unmet profiles needs (pairs, joined, none) users drawn met =
     let list = told (λ i. get_or drawn.choice (met.to i) 0) (length needs) in

@@ -7,7 +7,8 @@ use Rattle.hall_match.specs.Joined.{IsTransversal, IsLeastTransversal}
 use Rattle.hall_match.specs.Firsts.{AreFirstPlaces, HasNoPlace}
 
 -- a list that is nowhere above another of its length is the same or before it
-least_by_places : (list other : List ℕ) → length other ≡ length list → ((i : ℕ) → i < length list → get_or list i 0 ≤ get_or other i 0) → (other ≡ list) ⊎ IsBefore list other
+least_by_places : (list other : List ℕ) → length other ≡ length list → ((i : ℕ) → i < length list → get_or list i 0 ≤ get_or other i 0)
+    → (other ≡ list) ⊎ IsBefore list other
 least_by_places [] [] long below = inl refl
 least_by_places [] (y ∷ ys) long below = absurd (omega (arith, long))
 least_by_places (x ∷ xs) [] long below = absurd (omega (arith, long))
@@ -34,5 +35,6 @@ firsts_least Joins left places list are apart = record {
 }
 
 -- where an item has no place, there is no transversal
-pub none_first : (Joins : ℕ → ℕ → Type 0) (left places : ℕ) → (item : ℕ) × (item < left) × HasNoPlace Joins places item → (list : List ℕ) → ¬ IsTransversal Joins left places list
+pub none_first : (Joins : ℕ → ℕ → Type 0) (left places : ℕ) → (item : ℕ) × (item < left) × HasNoPlace Joins places item → (list : List ℕ)
+    → ¬ IsTransversal Joins left places list
 none_first Joins left places (item, l, none) list t = let one = t.each item l in none (get_or list item 0) one.0 one.1

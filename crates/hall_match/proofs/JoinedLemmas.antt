@@ -14,24 +14,26 @@ use Rattle.hall_match.specs.Joined.{AreJoined, OfPairs, IsTransversal, IsLeastTr
 use Rattle.hall_match.proofs.EdgeLemmas.{HaveItems, item_more}
 use Rattle.hall_match.proofs.OneLemmas.{matching_apart, apart_within}
 
-abbrev pub AreBelow : (ℕ → ℕ → Type 0) → ℕ → ℕ → ℕ → Type 0
-AreBelow Joins places k u = (u < places) × Joins k u
+-- the item goes with the place, which is below the number
+abbrev pub GoesBelow : (ℕ → ℕ → Type 0) → ℕ → ℕ → ℕ → Type 0
+GoesBelow Joins places k u = (u < places) × Joins k u
 
 -- the pairs of the items so far, with those of the next one
-pub row_more : (Joins : ℕ → ℕ → Type 0) (places : ℕ) (old new : List (ℕ × ℕ)) (at : ℕ) → HaveItems old at (AreBelow Joins places)
-    → ((k u : ℕ) → Contains new (k, u) ↔ (Contains old (k, u) ⊎ ((k ≡ at) × (u < places) × Joins at u))) → HaveItems new (at + 1) (AreBelow Joins places)
-row_more Joins places old new at before step = item_more old new at (AreBelow Joins places) before (λ k u. (λ h. to k u ((step k u).0 h), λ h. (step k u).1 (from k u h)))
+pub row_more : (Joins : ℕ → ℕ → Type 0) (places : ℕ) (old new : List (ℕ × ℕ)) (at : ℕ) → HaveItems old at (GoesBelow Joins places)
+    → ((k u : ℕ) → Contains new (k, u) ↔ (Contains old (k, u) ⊎ ((k ≡ at) × (u < places) × Joins at u))) → HaveItems new (at + 1) (GoesBelow Joins places)
+row_more Joins places old new at before step =
+    item_more old new at (GoesBelow Joins places) before (λ k u. (λ h. to k u ((step k u).0 h), λ h. (step k u).1 (from k u h)))
   where
-    to : (k u : ℕ) → Contains old (k, u) ⊎ ((k ≡ at) × (u < places) × Joins at u) → Contains old (k, u) ⊎ ((k ≡ at) × AreBelow Joins places at u)
+    to : (k u : ℕ) → Contains old (k, u) ⊎ ((k ≡ at) × (u < places) × Joins at u) → Contains old (k, u) ⊎ ((k ≡ at) × GoesBelow Joins places at u)
     to k u (inl c) = inl c
     to k u (inr h) = inr (h.0, (h.1, h.2))
 
-    from : (k u : ℕ) → Contains old (k, u) ⊎ ((k ≡ at) × AreBelow Joins places at u) → Contains old (k, u) ⊎ ((k ≡ at) × (u < places) × Joins at u)
+    from : (k u : ℕ) → Contains old (k, u) ⊎ ((k ≡ at) × GoesBelow Joins places at u) → Contains old (k, u) ⊎ ((k ≡ at) × (u < places) × Joins at u)
     from k u (inl c) = inl c
     from k u (inr h) = inr (h.0, h.1.0, h.1.1)
 
 -- the pairs of all items
-pub rows_whole : (Joins : ℕ → ℕ → Type 0) (places : ℕ) (pairs : List (ℕ × ℕ)) (items : ℕ) → HaveItems pairs items (AreBelow Joins places)
+pub rows_whole : (Joins : ℕ → ℕ → Type 0) (places : ℕ) (pairs : List (ℕ × ℕ)) (items : ℕ) → HaveItems pairs items (GoesBelow Joins places)
     → AreJoined Joins items places pairs
 rows_whole Joins places pairs items have k u = (λ c. let h = (have k u).0 c in (h.0, h.1.0, h.1.1), λ h. (have k u).1 (h.0, (h.1, h.2)))
 
@@ -45,7 +47,8 @@ joined_within Joins left capacities pairs are k d l =
 abbrev Ones : ℕ → List (Option ℕ)
 Ones places = replicate places (Some 1)
 
-of_ones : (Joins : ℕ → ℕ → Type 0) (left places : ℕ) (pairs : List (ℕ × ℕ)) → AreJoined Joins left (length (Ones places)) pairs → AreJoined Joins left places pairs
+of_ones : (Joins : ℕ → ℕ → Type 0) (left places : ℕ) (pairs : List (ℕ × ℕ)) → AreJoined Joins left (length (Ones places)) pairs
+    → AreJoined Joins left places pairs
 of_ones Joins left places pairs are = subst (λ n. AreJoined Joins left n pairs) (length-replicate places (Some 1)) are
 
 -- with capacities of one, a matching of the joined pairs is a transversal
@@ -79,10 +82,12 @@ least_ones Joins left places list (pairs, joined, m) =
 pub none_ones : (Joins : ℕ → ℕ → Type 0) (left places : ℕ)
     → OfPairs Joins left (length (Ones places)) (λ pairs. (list : List ℕ) → ¬ IsMatching left (Ones places) pairs list)
     → (list : List ℕ) → ¬ IsTransversal Joins left places list
-none_ones Joins left places (pairs, joined, none) list t = none list (transversal_matching Joins left places pairs list (of_ones Joins left places pairs joined) t)
+none_ones Joins left places (pairs, joined, none) list t =
+    none list (transversal_matching Joins left places pairs list (of_ones Joins left places pairs joined) t)
 
 -- where the items of two lists go together, a transversal has for each item of the first one of the second
-pub transversal_places : {A B : Type 0} (R : A → B → Type 0) (xs : List A) (ys : List B) (list : List ℕ) → IsTransversal (JoinsAt R xs ys) (length xs) (length ys) list
+pub transversal_places : {A B : Type 0} (R : A → B → Type 0) (xs : List A) (ys : List B) (list : List ℕ)
+    → IsTransversal (JoinsAt R xs ys) (length xs) (length ys) list
     → ArePlaces R xs ys list
 transversal_places {A} {B} R xs ys list t = record { long = t.long; apart = t.apart; each = each }
   where

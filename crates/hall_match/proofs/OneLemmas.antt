@@ -54,17 +54,20 @@ unused place (x ∷ xs) never = by_place (unused place xs (λ j l same. never (s
 -- a list of different places uses none of them twice
 apart_once : (list : List ℕ) → ((i j : ℕ) → i < length list → j < length list → get_or list i 0 ≡ get_or list j 0 → i ≡ j) → (place : ℕ) → uses place list ≤ 1
 apart_once [] apart place = omega arith
-apart_once (x ∷ xs) apart place = by_place (apart_once xs (λ i j l m same. omega (arith, apart (suc i) (suc j) (omega arith) (omega arith) same)) place) (eqb x place) refl
+apart_once (x ∷ xs) apart place =
+    by_place (apart_once xs (λ i j l m same. omega (arith, apart (suc i) (suc j) (omega arith) (omega arith) same)) place) (eqb x place) refl
   where
     by_place : uses place xs ≤ 1 → (t : Bool) → eqb x place ≡ t → uses place (x ∷ xs) ≤ 1
     by_place rest true e =
         let here : x ≡ place = eqb-true x place e in
-        let never : (j : ℕ) → j < length xs → get_or xs j 0 ≡ place → ⊥ = λ j l same. absurd (omega (arith, apart 0 (suc j) (omega arith) (omega arith) (here ∙ sym same))) in
+        let never : (j : ℕ) → j < length xs → get_or xs j 0 ≡ place → ⊥ =
+        λ j l same. absurd (omega (arith, apart 0 (suc j) (omega arith) (omega arith) (here ∙ sym same))) in
         omega (arith, uses_here place x xs here, unused place xs never)
     by_place rest false e = omega (arith, uses_other place x xs e, rest)
 
 -- a matching gives different items different places
-pub matching_apart : (left n : ℕ) (edges : List (ℕ × ℕ)) (list : List ℕ) → ((k u : ℕ) → Contains edges (k, u) → u < n) → IsMatching left (replicate n (Some 1)) edges list
+pub matching_apart : (left n : ℕ) (edges : List (ℕ × ℕ)) (list : List ℕ) → ((k u : ℕ) → Contains edges (k, u) → u < n)
+    → IsMatching left (replicate n (Some 1)) edges list
     → (i j : ℕ) → i < length list → j < length list → get_or list i 0 ≡ get_or list j 0 → i ≡ j
 matching_apart left n edges list inside m i j l k e =
     let below : get_or list i 0 < n = inside i (get_or list i 0) (m.neighbours i (subst (λ n. i < n) m.whole l)) in

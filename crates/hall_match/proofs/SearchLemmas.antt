@@ -335,7 +335,8 @@ pub near : (row items : List ℕ) (k : ℕ) → items ≡ row → k < length ite
 near row items k e l = subst (λ r. Contains r (get_or items k 0)) e (Contains-get_or items k 0 l)
 
 -- it is inside where the places of all rows are
-pub near_inside : (rows : List (List ℕ)) (count item : ℕ) (items : List ℕ) (k : ℕ) → AreInside rows count → items ≡ row_at rows item → k < length items → get_or items k 0 < count
+pub near_inside : (rows : List (List ℕ)) (count item : ℕ) (items : List ℕ) (k : ℕ) → AreInside rows count → items ≡ row_at rows item → k < length items
+    → get_or items k 0 < count
 near_inside rows count item items k inside e l = inside item (get_or items k 0) (near (row_at rows item) items k e l)
 
 pub row_seen : (seen : List Bool) (row items : List ℕ) → items ≡ row

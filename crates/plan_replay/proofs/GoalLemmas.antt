@@ -1,13 +1,9 @@
 -- A transversal of conditions and users is a list of users who meet the goal.
-use Rattle.std.proofs.Common.{ℕ, ◌≡◌, List, [], ◌∷◌, length, map, refl, suc, ap}
+use Rattle.std.proofs.Common.{ℕ, List, length}
 use Rattle.arbac_policy.specs.Truth.{Term, user, Satisfies}
 use Rattle.hall_match.specs.Joined.{IsLeastTransversal, JoinsAt}
 use Rattle.hall_match.proofs.JoinedLemmas.{transversal_places, places_transversal}
 use Rattle.plan_replay.specs.GoalLists.{AreLeast}
-
-pub length-map : {A B : Type 0} (f : A → B) (xs : List A) → length (map f xs) ≡ length xs
-length-map f [] = refl
-length-map f (x ∷ xs) = ap suc (length-map f xs)
 
 -- the set satisfies the condition
 abbrev pub MeetsOne : List (ℕ × ℕ) → Term → List ℕ → Type 0

@@ -22,6 +22,7 @@ use Rattle.req_core.proofs.HitLemmas.{any_map, drop_here, later}
 
 -- one item put in
 
+-- the place is the law's
 pub spot_at : {A : Type 0} (before : A → A → Bool) (x : A) (ys : List A) (at : ℕ) → IsSpot before x ys at → at ≡ spot before x ys
 spot_at before x [] zero s = refl
 spot_at before x [] (suc at) s = let l = s.within in absurd (omega (arith, l))
@@ -31,7 +32,8 @@ spot_at before x (y ∷ ys) (suc at) s = let first = s.earlier 0 y (omega arith)
 -- the other places
 
 -- what a loop that goes over a list and changes each item has not yet changed
-pub unchanged : {A : Type 0} (f : A → A) (xs ys : List A) (i : ℕ) (d : A) → i < length ys → ys ≡ map f (take i xs) ++ drop i xs → slice_get xs i ≡ Some (get_or ys i d)
+pub unchanged : {A : Type 0} (f : A → A) (xs ys : List A) (i : ℕ) (d : A) → i < length ys → ys ≡ map f (take i xs) ++ drop i xs
+    → slice_get xs i ≡ Some (get_or ys i d)
 unchanged f [] ys zero d l e = absurd (let long = ap length e in omega (arith, long, l))
 unchanged f [] ys (suc i) d l e = absurd (let long = ap length e in omega (arith, long, l))
 unchanged f (x ∷ xs) ys zero d l e = rw e refl
@@ -47,6 +49,7 @@ all_moved at to zero = refl
 all_moved at to (suc n) =
     ap (λ p. p ∷ map (moved at) (told (λ i. to (suc i)) n)) (moved_pushed at (to 0)) ∙ ap (λ t. pushed at (to 0) ∷ t) (all_moved at (λ i. to (suc i)) n)
 
+-- each user has a place among the others
 pub places_below : (needs form : List Need) (places : List ℕ) → AreFormPlaces needs form places → Each (λ place. place < length form) places
 places_below needs form places s = each_of (λ place. place < length form) places (λ k place e.
     let within = get_within places k place e in
@@ -59,6 +62,7 @@ places_below needs form places s = each_of (λ place. place < length form) place
 
 -- one user more
 
+-- one user more is put in, and the places from there on move
 pub one_placed : (needs form : List Need) (places : List ℕ) (need user : Need) (at : ℕ) → normal_need need ≡ user → IsSpot need_before user form at
     → IsPlaced needs form places → IsPlaced (need ∷ needs) (insert_by need_before user form) (at ∷ map (moved at) places)
 one_placed needs form places need user at same spot_is p = record { sorted = sorted; stand = placed }
@@ -67,7 +71,8 @@ one_placed needs form places need user at same spot_is p = record { sorted = sor
     sorted = ap (λ v. insert_by need_before v form) (sym same) ∙ ap (insert_by need_before (normal_need need)) p.sorted
 
     told_before : places ≡ places_of needs
-    told_before = one_form_place needs form places (places_of needs) p.stand (subst (λ f. AreFormPlaces needs f (places_of needs)) (sym p.sorted) (are_places needs))
+    told_before = one_form_place needs form places (places_of needs) p.stand
+        (subst (λ f. AreFormPlaces needs f (places_of needs)) (sym p.sorted) (are_places needs))
 
     there : at ≡ spot need_before (normal_need need) (sort_by need_before (map normal_need needs))
     there = spot_at need_before user form at spot_is ∙ ap (λ v. spot need_before v form) (sym same) ∙ ap (spot need_before (normal_need need)) p.sorted
@@ -88,7 +93,9 @@ pub record IsForm (needs form : List Need) (places : List ℕ) : Type 0 where
   pub possible : is_impossible needs ≡ false
   pub normal : Each IsNormalNeed form
 
-pub one_user : (raw : List Conjunct) (i j : ℕ) (one : Conjunct) (user : Need) (form more : List Need) (places others : List ℕ) → j ≡ suc i → slice_get raw i ≡ Some one
+-- one user more, from the last one on
+pub one_user : (raw : List Conjunct) (i j : ℕ) (one : Conjunct) (user : Need) (form more : List Need) (places others : List ℕ) → j ≡ suc i
+    → slice_get raw i ≡ Some one
     → Some user ≡ cond (list_any is_empty (bare_hits (need_of one))) None (Some (normal_need (need_of one))) → IsNormalNeed user
     → IsForm (needs_of (drop j raw)) form places → more ≡ insert_by need_before user form
     → ((needs : List Need) (need : Need) → normal_need need ≡ user → IsPlaced needs form places → IsPlaced (need ∷ needs) more others)
@@ -108,12 +115,14 @@ one_user raw i j one user form more places others next e made normal f is placed
 
 -- the end
 
+-- the users are in normal form and sorted
 pub form_normal : (needs form : List Need) (places : List ℕ) → IsForm needs form places → IsNormal form
 form_normal needs form places f = record {
   each = f.normal;
   sorted = subst (AreSorted need_before) (sym f.placed.sorted) (sort_sorted need_before need_order (map normal_need needs));
 }
 
+-- where a user can not be met, there is no normal form
 pub form_none : (raw : List Conjunct) (i : ℕ) (one : Conjunct) → slice_get raw i ≡ Some one
     → None ≡ cond (list_any is_empty (bare_hits (need_of one))) None (Some (normal_need (need_of one))) → None ≡ normal_form (needs_of raw)
 form_none raw i one e made =

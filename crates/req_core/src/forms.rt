@@ -61,8 +61,8 @@ fn form_of(alloc: Global, raw: &[RawUser]) -> Result<Option<Normal>, AllocError>
     ensures form { IfOk result (λ normal. form_in normal ≡ normal_form (needs_of raw.now)) }
     ensures places { IfOk result (λ normal. IfSome normal (λ n. AreFormPlaces (needs_of raw.now) n.req n.places.items)) }
 {
-    let mut users = Vec::new(alloc);
-    let mut places = Vec::new(alloc);
+    let mut users = Vec::with_capacity(alloc, raw.len())?;
+    let mut places = Vec::with_capacity(alloc, raw.len())?;
     for at in (0..raw.len()).rev() {
         match normal_user(alloc, &raw[at])? {
             None => return Ok(None),

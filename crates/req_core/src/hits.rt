@@ -31,7 +31,7 @@ fn bare_hits(alloc: Global, raw: &RawUser) -> Result<Option<Vec<RoleSet>>, Alloc
     ensures sets { IfOk result (λ hits. IfSome hits (λ _. AreSets (need_of raw.now))) }
 {
     let lacks = known(&raw.lacks);
-    let mut hits = Vec::new(alloc);
+    let mut hits = Vec::with_capacity(alloc, raw.hits.len())?;
     for hit in &raw.hits {
         let rest = known(hit).less(&lacks);
         if rest.within(&RoleSet::empty()) {
@@ -90,7 +90,7 @@ fn add_least(list: &mut Vec<RoleSet>, hits: &[RoleSet], hit: &RoleSet) -> Result
 fn least_sorted(alloc: Global, hits: &[RoleSet]) -> Result<Vec<RoleSet>, AllocError>
     ensures { IfOk result (λ list. list.items ≡ sort_once set_before (least_hits hits.now)) }
 {
-    let mut list = Vec::new(alloc);
+    let mut list = Vec::with_capacity(alloc, hits.len())?;
     for at in (0..hits.len()).rev() {
         add_least(&mut list, hits, &hits[at])?;
     }

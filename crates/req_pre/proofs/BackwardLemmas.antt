@@ -24,7 +24,8 @@ weak_some role need hits lacks h is less =
 
 -- a change at a place of the list of raw users
 
-pub change_raw : (raw : List Conjunct) (i : ℕ) (user : Conjunct) (hit : List ℕ) (old : Conjunct) → slice_get raw i ≡ Some old → need_of user ≡ add_hit hit (need_of old)
+pub change_raw : (raw : List Conjunct) (i : ℕ) (user : Conjunct) (hit : List ℕ) (old : Conjunct) → slice_get raw i ≡ Some old
+    → need_of user ≡ add_hit hit (need_of old)
     → needs_of (slice_set raw i user) ≡ change_at i (add_hit hit) (needs_of raw)
 change_raw [] i user hit old e h = cc
 change_raw (x ∷ raw) zero user hit old e h = let same : x ≡ old = cc in rw (h, same) refl

@@ -46,7 +46,8 @@ pub placed_more : (goals : List (List Need)) (forms new : List (Option Normal)) 
 placed_more goals forms new i needs form before long at placed grown number others normal g e =
     by_side (get_last_cases forms form (Some normal) number (sym (ap (λ l. slice_get l number) grown) ∙ e))
   where
-    by_side : (slice_get forms number ≡ Some (Some normal)) ⊎ ((number ≡ length forms) × (form ≡ Some normal)) → AreFormPlaces others normal.req normal.places.items
+    by_side : (slice_get forms number ≡ Some (Some normal)) ⊎ ((number ≡ length forms) × (form ≡ Some normal))
+        → AreFormPlaces others normal.req normal.places.items
     by_side (inl old) = before number others normal g old
     by_side (inr here) =
         let there : slice_get goals number ≡ Some needs = subst (λ k. slice_get goals k ≡ Some needs) (sym (here.0 ∙ long)) at in

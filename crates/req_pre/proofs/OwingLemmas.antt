@@ -84,7 +84,8 @@ pub flat_append : {A B : Type 0} (f : A → List B) (xs ys : List A) → flat f 
 flat_append f [] ys = refl
 flat_append f (x ∷ xs) ys = ap (λ l. f x ++ l) (flat_append f xs ys) ∙ sym (append_assoc (f x) (flat f xs) (flat f ys))
 
-pub flat_of_places : {A B C : Type 0} (f : B → List C) (g : ℕ → A → List B) (at : ℕ) (xs : List A) → flat f (flat_places g at xs) ≡ flat_places (λ i x. flat f (g i x)) at xs
+pub flat_of_places : {A B C : Type 0} (f : B → List C) (g : ℕ → A → List B) (at : ℕ) (xs : List A)
+    → flat f (flat_places g at xs) ≡ flat_places (λ i x. flat f (g i x)) at xs
 flat_of_places f g at [] = refl
 flat_of_places f g at (x ∷ xs) = flat_append f (g at x) (flat_places g (at + 1) xs) ∙ ap (λ l. flat f (g at x) ++ l) (flat_of_places f g (at + 1) xs)
 
@@ -101,7 +102,8 @@ pub flat_filter : (f : ℕ → List Owed) (test : ℕ → Bool) (xs : List ℕ) 
 flat_filter f test [] = refl
 flat_filter f test (x ∷ xs) = by_test (test x) refl (flat_filter f test xs)
   where
-    by_test : (t : Bool) → test x ≡ t → flat f (filter test xs) ≡ flat (λ x. only_if (test x) (f x)) xs → flat f (filter test (x ∷ xs)) ≡ only_if (test x) (f x) ++ flat (λ x. only_if (test x) (f x)) xs
+    by_test : (t : Bool) → test x ≡ t → flat f (filter test xs) ≡ flat (λ x. only_if (test x) (f x)) xs
+        → flat f (filter test (x ∷ xs)) ≡ only_if (test x) (f x) ++ flat (λ x. only_if (test x) (f x)) xs
     by_test true e rest = rw e (ap (λ l. f x ++ l) rest)
     by_test false e rest = rw e rest
 
@@ -118,7 +120,8 @@ others origin role target (x ∷ xs) = by_test (not (eqb x target)) refl (others
   where
     by_test : (t : Bool) → not (eqb x target) ≡ t
         → map (act_by origin role target) (map other (filter (λ place. not (eqb place target)) xs)) ≡ flat (by_other origin role target) xs
-        → map (act_by origin role target) (map other (filter (λ place. not (eqb place target)) (x ∷ xs))) ≡ by_other origin role target x ++ flat (by_other origin role target) xs
+        → map (act_by origin role target) (map other (filter (λ place. not (eqb place target)) (x ∷ xs)))
+        ≡ by_other origin role target x ++ flat (by_other origin role target) xs
     by_test true e rest = rw e (ap (λ l. act_by origin role target (other x) ∷ l) rest)
     by_test false e rest = rw e rest
 
@@ -129,10 +132,12 @@ picks_are origin role target count =
     ∙ ap (λ l. l ++ act_by origin role target fresh ∷ []) (others origin role target (count_up 0 count)))
 
 pub targets_are : (origin : Origin) (role : ℕ) (needs : List Need)
-    → flat (λ target. map (act_by origin role target) (picks target (length needs))) (flat_places (λ place need. if_wanted (is_of_use origin role need) place) 0 needs)
+    → flat (λ target. map (act_by origin role target) (picks target (length needs)))
+    (flat_places (λ place need. if_wanted (is_of_use origin role need) place) 0 needs)
     ≡ by_targets origin needs role
 targets_are origin role needs =
-    flat_of_places (λ target. map (act_by origin role target) (picks target (length needs))) (λ place need. if_wanted (is_of_use origin role need) place) 0 needs
+    flat_of_places (λ target. map (act_by origin role target) (picks target (length needs)))
+    (λ place need. if_wanted (is_of_use origin role need) place) 0 needs
     ∙ places_same (λ place need. flat (λ target. map (act_by origin role target) (picks target (length needs))) (if_wanted (is_of_use origin role need) place))
     (by_target origin role (length needs))
     (λ place need. flat_wanted (λ target. map (act_by origin role target) (picks target (length needs))) (is_of_use origin role need) place
@@ -142,12 +147,14 @@ targets_are origin role needs =
 -- by role of the range and by target, as the laws list an origin's acts
 abbrev pub of_origin : Origin → Graph → Range → List Need → List Owed
 of_origin origin order range needs =
-    flat (λ role. flat (λ target. map (act_by origin role target) (picks target (length needs))) (flat_places (λ place need. if_wanted (is_of_use origin role need) place) 0 needs))
+    flat (λ role. flat (λ target. map (act_by origin role target) (picks target (length needs)))
+    (flat_places (λ place need. if_wanted (is_of_use origin role need) place) 0 needs))
     (roles_in order range)
 
 pub roles_are : (origin : Origin) (order : Graph) (range : Range) (needs : List Need) → of_origin origin order range needs ≡ by_roles origin order range needs
 roles_are origin order range needs =
-    flat_same (λ role. flat (λ target. map (act_by origin role target) (picks target (length needs))) (flat_places (λ place need. if_wanted (is_of_use origin role need) place) 0 needs))
+    flat_same (λ role. flat (λ target. map (act_by origin role target) (picks target (length needs)))
+    (flat_places (λ place need. if_wanted (is_of_use origin role need) place) 0 needs))
     (by_targets origin needs) (λ role. targets_are origin role needs) (roles_in order range)
     ∙ flat_filter (by_targets origin needs) (is_in_range order range) (count_up 0 (length order.names))
 

@@ -71,7 +71,7 @@ fn barred(order: &Order, role: u16, pairs: &[(u16, u16)]) -> RoleSet
 fn other_hits(alloc: Global, role: u16, hits: &[RoleSet]) -> Result<Vec<RoleSet>, AllocError>
     ensures { IfOk result (λ list. list.items ≡ filter (λ hit. not (has_role hit role)) hits.now) }
 {
-    let mut list = Vec::new(alloc);
+    let mut list = Vec::with_capacity(alloc, hits.len())?;
     for hit in hits {
         if !hit.has(role) {
             list.push(*hit)?;
@@ -135,7 +135,7 @@ fn has_alone(hits: &[RoleSet], role: u16) -> bool
 fn hits_without(alloc: Global, role: u16, hits: &[RoleSet]) -> Result<Vec<RoleSet>, AllocError>
     ensures { IfOk result (λ list. list.items ≡ map (λ hit. without_role hit role) hits.now) }
 {
-    let mut list = Vec::new(alloc);
+    let mut list = Vec::with_capacity(alloc, hits.len())?;
     for hit in hits {
         list.push(hit.without(role))?;
     }
@@ -159,7 +159,7 @@ fn raw_users(alloc: Global, req: &Req) -> Result<Vec<RawUser>, AllocError>
     ensures { IfOk result (λ raw. needs_of raw.items ≡ req.now) }
 {
     let users = req.users();
-    let mut raw = Vec::new(alloc);
+    let mut raw = Vec::with_capacity(alloc, users.len())?;
     for user in users {
         raw.push(raw_user(alloc, user.hits(), user.lacks())?)?;
     }

@@ -4,6 +4,7 @@ use Rattle.hall_match.specs.Joined.{OfPairs}
 use Rattle.hall_match.proofs.JoinedLemmas.{least_ones, none_ones}
 use Rattle.hall_match.proofs.joined.matched_transversal.Goals as goal
 
+-- with capacities of one the least matching is the least transversal
 pub returns-in-Matched-clause-least : goal.returns-in-Matched-clause-least
 returns-in-Matched-clause-least g c =
     let joins = g.E.Edges.joins c.args.edges.now in
@@ -12,6 +13,7 @@ returns-in-Matched-clause-least g c =
     rw (c.in-Matched.is, c.deref.ensures.value, c.in_ok-ones.ensures) at c.in_ok-list.ensures.matched in
     least_ones joins c.args.left c.args.places c.in-Matched.list.items least
 
+-- a transversal would be a matching
 pub returns-clause-none : goal.returns-clause-none
 returns-clause-none g c =
     let joins = g.E.Edges.joins c.args.edges.now in

@@ -7,6 +7,7 @@ use Rattle.req_core.proofs.HitLemmas.{insert_new, insert_kept}
 use Rattle.req_core.proofs.hits.insert.Goals as goal
 use Rattle.req_core.proofs.hits.insert.Goals.{then-at-len-via-then-at-len, then-at-len-via-else-at-len+then-before}
 
+-- at its place stands no equal hit
 pub returns-in_ok-insert : goal.returns-in_ok-insert
 returns-in_ok-insert c =
     let hits = c.args.hits.now.items in
@@ -24,6 +25,7 @@ returns-in_ok-insert c =
           subst (λ (q : List ℕ). set_before hit q ≡ true) same (sym w.before-else-at-len.ensures.value ∙ w.if-before.true))
     ]
 
+-- at its place stands an equal hit
 pub returns-else-before : goal.returns-else-before
 returns-else-before c =
     let hits = c.args.hits.now.items in

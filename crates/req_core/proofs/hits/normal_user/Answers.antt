@@ -5,6 +5,7 @@ use Rattle.arbac_laws.specs.Views.{need_of}
 use Rattle.req_core.proofs.HitLemmas.{made_normal}
 use Rattle.req_core.proofs.hits.normal_user.Goals as goal
 
+-- the hits are the sorted least ones
 pub made-requires : goal.made-requires
 made-requires c =
     let need = need_of c.args.raw.now in

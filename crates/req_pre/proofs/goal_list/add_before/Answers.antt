@@ -15,6 +15,8 @@ loop-tail-preserved c =
     let i = c.loop-tail.tail-index in
     let at = item_there tails i tail c.loop-tail-test.true c.tail-item.is in
     let made : needs_of c.in_ok-with_first.field-0.items ≡ a ∷ needs_of tail.items = rw (c.deref.ensures.value) at c.in_ok-with_first.ensures in
-    let there = at_mapped (λ needs. a ∷ needs) (lists_of tails) i (needs_of tail.items) (at_mapped (λ (raw : Vec Conjunct Global). needs_of raw.items) tails i tail at) in
-    seen_more (λ (raw : Vec Conjunct Global). needs_of raw.items) (lists_of c.args.all.now.items) (map (λ needs. a ∷ needs) (lists_of tails)) c.loop-tail.all.items c.push.new.self.items i
+    let there = at_mapped (λ needs. a ∷ needs) (lists_of tails) i (needs_of tail.items)
+    (at_mapped (λ (raw : Vec Conjunct Global). needs_of raw.items) tails i tail at) in
+    seen_more (λ (raw : Vec Conjunct Global). needs_of raw.items) (lists_of c.args.all.now.items)
+    (map (λ needs. a ∷ needs) (lists_of tails)) c.loop-tail.all.items c.push.new.self.items i
     c.in_ok-with_first.field-0 (a ∷ needs_of tail.items) c.loop-tail.invariant there c.in_ok-push.ensures.items made

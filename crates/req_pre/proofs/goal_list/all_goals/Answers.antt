@@ -7,5 +7,6 @@ use Rattle.req_pre.proofs.goal_list.all_goals.Goals as goal
 
 pub returns-clause-places : goal.returns-clause-places
 returns-clause-places c =
-    let all : lists_of c.deref.result.now ≡ goal_requirements c.args.order.now (map term_of c.args.goal.now) = ap lists_of c.deref.ensures.value ∙ c.in_ok-raws.ensures in
+    let all : lists_of c.deref.result.now ≡ goal_requirements c.args.order.now (map term_of c.args.goal.now) =
+    ap lists_of c.deref.ensures.value ∙ c.in_ok-raws.ensures in
     subst (λ goals. AreGoalPlaces goals c.in_ok-list.list.items) all c.in_ok-list.ensures.places

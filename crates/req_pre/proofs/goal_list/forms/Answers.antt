@@ -20,12 +20,14 @@ loop-raw-preserved c =
     let there : slice_get (lists_of raws) i ≡ _ = at_mapped (λ (r : Vec Conjunct Global). needs_of r.items) raws i raw at in
     let made : form_in form ≡ normal_form (needs_of raw.items) = rw (c.deref.ensures.value) at c.in_ok-normal.ensures.form in
     let placed : IfSome form (λ n. AreFormPlaces (needs_of raw.items) n.req n.places.items) = rw (c.deref.ensures.value) at c.in_ok-normal.ensures.places in
-    let all : length (map normal_form (lists_of raws)) ≡ length raws = length_mapped normal_form (lists_of raws) ∙ length_mapped (λ (r : Vec Conjunct Global). needs_of r.items) raws in
+    let all : length (map normal_form (lists_of raws)) ≡ length raws =
+    length_mapped normal_form (lists_of raws) ∙ length_mapped (λ (r : Vec Conjunct Global). needs_of r.items) raws in
     let long : length c.loop-raw.list.items ≡ i =
     sym (length_mapped form_in c.loop-raw.list.items) ∙ ap length c.loop-raw.invariant.list
     ∙ length_taken (map normal_form (lists_of raws)) i (omega (all, c.loop-raw-test.true, arith)) in
     record {
       list = seen_more form_in [] (map normal_form (lists_of raws)) c.loop-raw.list.items c.push.new.self.items i form (normal_form (needs_of raw.items))
           c.loop-raw.invariant.list (at_mapped normal_form (lists_of raws) i (needs_of raw.items) there) c.in_ok-push.ensures.items made;
-      places = placed_more (lists_of raws) c.loop-raw.list.items c.push.new.self.items i (needs_of raw.items) form c.loop-raw.invariant.places long there placed c.in_ok-push.ensures.items;
+      places = placed_more (lists_of raws) c.loop-raw.list.items c.push.new.self.items i
+          (needs_of raw.items) form c.loop-raw.invariant.places long there placed c.in_ok-push.ensures.items;
     }

@@ -16,7 +16,8 @@ pub returns-in-Err-TooWide-clause-wide : goal.returns-in-Err-TooWide-clause-wide
 returns-in-Err-TooWide-clause-wide c =
     let rules = c.args.policy.now in
     let rule = c.rule-item.result in
-    let here : slice_get c.assign-rule-items.result.now c.loop-place.place ≡ Some rule = get_at _ _ _ c.loop-place-test.true ∙ ap (λ (x : CanAssign). Some x) (sym c.rule-item.is) in
+    let here : slice_get c.assign-rule-items.result.now c.loop-place.place ≡ Some rule =
+    get_at _ _ _ c.loop-place-test.true ∙ ap (λ (x : CanAssign). Some x) (sym c.rule-item.is) in
     let at : slice_get rules.assign c.loop-place.place ≡ Some rule = rw (c.assign-rule-items.ensures) at here in
     let told : IsTooWideList (conjuncts_of rules rule) (TooWide c.in-Err-TooWide.count) =
     rw (c.in-Err-TooWide.field-0-is, c.order-order.ensures.order) at c.in-Err-TooWide.ensures.wide in
@@ -26,12 +27,14 @@ pub loop-place-preserved : goal.loop-place-preserved
 loop-place-preserved c =
     let rules = c.args.policy.now in
     let rule = c.rule-item.result in
-    let here : slice_get c.assign-rule-items.result.now c.loop-place.place ≡ Some rule = get_at _ _ _ c.loop-place-test.true ∙ ap (λ (x : CanAssign). Some x) (sym c.rule-item.is) in
+    let here : slice_get c.assign-rule-items.result.now c.loop-place.place ≡ Some rule =
+    get_at _ _ _ c.loop-place-test.true ∙ ap (λ (x : CanAssign). Some x) (sym c.rule-item.is) in
     let at : slice_get rules.assign c.loop-place.place ≡ Some rule = rw (c.assign-rule-items.ensures) at here in
     let same : needs_of c.in-Ok.list.items ≡ conjuncts_of rules rule = rw (c.order-order.ensures.order) at c.in-Ok.ensures.list in
     let few : length (conjuncts_of rules rule) ≤ MOST_CONJUNCTS = rw (c.order-order.ensures.order) at c.in-Ok.ensures.few in
     record {
-      lists = mapped_more (λ (l : Vec Conjunct Global). needs_of l.items) (conjuncts_of rules) c.loop-place.lists.items c.push.new.self.items rules.assign c.loop-place.place c.in-Ok.list rule
+      lists = mapped_more (λ (l : Vec Conjunct Global). needs_of l.items)
+          (conjuncts_of rules) c.loop-place.lists.items c.push.new.self.items rules.assign c.loop-place.place c.in-Ok.list rule
           c.loop-place.invariant.lists at c.in_ok-push-in-Ok.ensures.items same;
       narrow = below_more (λ (x : CanAssign). ¬ IsWide x) rules.assign c.loop-place.place rule c.loop-place.invariant.narrow at (narrow_here rules rule few);
     }
