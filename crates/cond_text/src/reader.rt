@@ -3,7 +3,8 @@
 ghost use Rattle.std.specs.Prelude.{◌≡◌, ◌∷◌, IfOk, option_map, Some};
 ghost use Rattle.arbac_policy.specs.Truth.{term_of};
 ghost use Rattle.cond_text.specs.Views.{frame_of, stack_of, state_of};
-ghost use Rattle.cond_text.specs.Machine.{and_with, or_with, operand_read, closing, step as next_state, step_operand as behind_operand, step_name as behind_name, step_conjunction as behind_conjunction};
+ghost use Rattle.cond_text.specs.Machine as machine;
+ghost use Rattle.cond_text.specs.Machine.{and_with, or_with, operand_read, closing};
 
 use crate::word::Word;
 use arbac_policy::Cond;
@@ -91,7 +92,7 @@ fn step_operand(
     frame: Frame,
     word: Word,
 ) -> Result<Option<State>, AllocError>
-    ensures { IfOk result (λ o. option_map state_of o ≡ behind_operand (stack_of outer.items)
+    ensures { IfOk result (λ o. option_map state_of o ≡ machine.step_operand (stack_of outer.items)
         (frame_of frame) word) }
 {
     match word {
@@ -118,7 +119,7 @@ fn step_name(
     frame: Frame,
     word: Word,
 ) -> Result<Option<State>, AllocError>
-    ensures { IfOk result (λ o. option_map state_of o ≡ behind_name (stack_of outer.items)
+    ensures { IfOk result (λ o. option_map state_of o ≡ machine.step_name (stack_of outer.items)
         (frame_of frame) word) }
 {
     match word {
@@ -150,7 +151,7 @@ fn step_conjunction(
     conjunction: Cond,
     word: Word,
 ) -> Result<Option<State>, AllocError>
-    ensures { IfOk result (λ o. option_map state_of o ≡ behind_conjunction (stack_of outer.items)
+    ensures { IfOk result (λ o. option_map state_of o ≡ machine.step_conjunction (stack_of outer.items)
         (option_map term_of ors) (term_of conjunction) word) }
 {
     match word {
@@ -179,7 +180,7 @@ fn step_conjunction(
 
 /// The state behind the word, and none where the word can't stand here.
 pub fn step(alloc: Global, state: State, word: Word) -> Result<Option<State>, AllocError>
-    ensures { IfOk result (λ o. option_map state_of o ≡ next_state (state_of state) word) }
+    ensures { IfOk result (λ o. option_map state_of o ≡ machine.step (state_of state) word) }
 {
     match state {
         State::WantsOperand { outer, frame } => step_operand(alloc, outer, frame, word),

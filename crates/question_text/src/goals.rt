@@ -8,7 +8,8 @@ ghost use Rattle.cond_text.specs.Grammar.{term_count};
 ghost use Rattle.question_text.specs.Outcomes.{seen_as};
 ghost use Rattle.question_text.specs.Keys.{list_of, entries};
 ghost use Rattle.question_text.specs.Rules.{IsCondition};
-ghost use Rattle.question_text.specs.Tables.{a_goal_condition, not_wide_goal, a_goal, the_goal as goal_of};
+ghost use Rattle.question_text.specs.Tables as tables;
+ghost use Rattle.question_text.specs.Tables.{a_goal_condition, not_wide_goal, a_goal};
 ghost use Rattle.question_text.specs.Answers.{Answers};
 
 use crate::entries::{ReadEntry, each_entry};
@@ -84,7 +85,7 @@ pub fn the_goal(
     need_goal: bool,
     table: &Table,
 ) -> Result<Vec<Cond>, QuestionError>
-    ensures goal { Answers (λ conds. map term_of conds.items) (goal_of need_goal order.now.names (table_view table.now)) result }
+    ensures goal { Answers (λ conds. map term_of conds.items) (tables.the_goal need_goal order.now.names (table_view table.now)) result }
     ensures kept { IfOk result (λ conds. Each (IsCondition (length order.now.names)) (map term_of conds.items)) }
 {
     match value_at(table, "goal") {

@@ -7,8 +7,7 @@ ghost use Rattle.role_order.specs.Refusals.{IsOrder};
 ghost use Rattle.question_text.specs.Keys.{entries, list_of, as_two_different_texts};
 ghost use Rattle.question_text.specs.declared.TheConstants.{MOST_PAIRS};
 ghost use Rattle.question_text.specs.Roles.{a_text, a_role, an_edge, a_pair, is_order, roles_in, listed_roles};
-ghost use Rattle.question_text.specs.Roles.{role_named as named, role_set as set_of, role_names as names_of, admin_list as admins_list, admin_roles as admins_of};
-ghost use Rattle.question_text.specs.Roles.{both_roles as both, is_mixed as mixed, not_mixed as apart, role_edges as edges_of, exclusive_pairs as exclusive_of};
+ghost use Rattle.question_text.specs.Roles as role_lists;
 ghost use Rattle.question_text.specs.Answers.{Answers};
 ghost use Rattle.question_text.specs.Views.{entries_of};
 
@@ -31,7 +30,7 @@ pub fn role_named(
     path: &str,
     name: &str,
 ) -> Result<u16, QuestionError>
-    ensures role { Answers (λ role. role) (named order.now.names path.now name.now) result }
+    ensures role { Answers (λ role. role) (role_lists.role_named order.now.names path.now name.now) result }
     ensures known { IfOk result (λ role. role < length order.now.names) }
 {
     match order.role_named(name) {
@@ -58,7 +57,7 @@ pub fn role_set(
     path: &str,
     list: &Array,
 ) -> Result<RoleSet, QuestionError>
-    ensures { Answers (λ set. set) (set_of order.now.names path.now (list_of (array_view list.now))) result }
+    ensures { Answers (λ set. set) (role_lists.role_set order.now.names path.now (list_of (array_view list.now))) result }
 {
     // The roles of an order are few enough for a set.
     let count = order.count() as usize;
@@ -123,7 +122,7 @@ fn order_of(
 
 /// The order of the roles that a document names, without edges yet.
 pub fn role_names(alloc: Global, table: &Table) -> Result<Order, QuestionError>
-    ensures names { Answers (λ order. order.names) (names_of (table_view table.now)) result }
+    ensures names { Answers (λ order. order.names) (role_lists.role_names (table_view table.now)) result }
     ensures edges { IfOk result (λ order. order.edges ≡ []) }
 {
     let list = required_list(alloc, table, "", "roles")?;
@@ -137,7 +136,7 @@ fn admin_list<'t>(
     separate: bool,
     table: &'t Table,
 ) -> Result<Option<&'t Array>, QuestionError>
-    ensures { Answers entries_of (admins_list separate (table_view table.now)) result }
+    ensures { Answers entries_of (role_lists.admin_list separate (table_view table.now)) result }
 {
     if separate {
         Ok(Some(required_list(alloc, table, "", "admin_roles")?))
@@ -153,7 +152,7 @@ pub fn admin_roles(
     separate: bool,
     table: &Table,
 ) -> Result<RoleSet, QuestionError>
-    ensures { Answers (λ set. set) (admins_of separate order.now.names (table_view table.now)) result }
+    ensures { Answers (λ set. set) (role_lists.admin_roles separate order.now.names (table_view table.now)) result }
 {
     match admin_list(alloc, separate, table)? {
         Some(list) => role_set(alloc, order, "admin_roles", list),
@@ -168,7 +167,7 @@ fn both_roles(
     path: &str,
     texts: (&str, &str),
 ) -> Result<(u16, u16), QuestionError>
-    ensures { Answers (λ roles. roles) (both order.now.names path.now (texts.entry.0.now, texts.entry.1.now)) result }
+    ensures { Answers (λ roles. roles) (role_lists.both_roles order.now.names path.now (texts.entry.0.now, texts.entry.1.now)) result }
 {
     let (first, second) = texts;
     let first = role_named(alloc, order, path, first)?;
@@ -233,7 +232,7 @@ impl<'o> ReadEntry for PairReader<'o> {
 
 /// Whether one of the roles is administrative and the other isn't.
 fn is_mixed(admins: &RoleSet, roles: (u16, u16)) -> bool
-    ensures { result ≡ mixed admins.now roles }
+    ensures { result ≡ role_lists.is_mixed admins.now roles }
 {
     let (first, second) = roles;
     (admins.has(first) && !admins.has(second)) || (admins.has(second) && !admins.has(first))
@@ -241,7 +240,7 @@ fn is_mixed(admins: &RoleSet, roles: (u16, u16)) -> bool
 
 /// The place of the first two roles of which one is administrative and the other isn't.
 fn first_mixed(admins: &RoleSet, list: &[(u16, u16)]) -> Option<usize>
-    ensures { result ≡ position (mixed admins.now) list.now }
+    ensures { result ≡ position (role_lists.is_mixed admins.now) list.now }
 {
     list.iter().position(|roles| is_mixed(admins, *roles))
 }
@@ -255,7 +254,7 @@ fn not_mixed(
     path: &str,
     list: &[(u16, u16)],
 ) -> Result<(), QuestionError>
-    ensures { Answers (λ _. tt) (apart separate admins.now path.now list.now) result }
+    ensures { Answers (λ _. tt) (role_lists.not_mixed separate admins.now path.now list.now) result }
 {
     if !separate {
         return Ok(());
@@ -308,7 +307,7 @@ pub fn role_edges(
     admins: &RoleSet,
     table: &Table,
 ) -> Result<Order, QuestionError>
-    ensures edges { Answers (λ next. next.edges) (edges_of separate admins.now order.now.names (table_view table.now)) result }
+    ensures edges { Answers (λ next. next.edges) (role_lists.role_edges separate admins.now order.now.names (table_view table.now)) result }
     ensures names { IfOk result (λ next. next.names ≡ order.now.names) }
 {
     let reader = EdgeReader { order };
@@ -326,7 +325,7 @@ pub fn exclusive_pairs(
     admins: &RoleSet,
     table: &Table,
 ) -> Result<Vec<(u16, u16)>, QuestionError>
-    ensures { Answers (λ pairs. pairs.items) (exclusive_of version separate admins.now order.now.names (table_view table.now)) result }
+    ensures { Answers (λ pairs. pairs.items) (role_lists.exclusive_pairs version separate admins.now order.now.names (table_view table.now)) result }
 {
     if version == 1 && value_at(table, "exclusive").is_some() {
         return Err(QuestionError::WrongKind {

@@ -1,6 +1,6 @@
 use Rattle.std.proofs.Common.{◌∙◌, sym, ap, arith, map, Some}
 use Rattle.role_order.proofs.ClosureLemmas.{length_mapped}
-use Rattle.list_words.proofs.GetLemmas.{get_at}
+use Rattle.list_words.proofs.GetLemmas.{get_at, get_map}
 use Rattle.arbac_policy.specs.PlainRules.{plain_rule}
 use Rattle.question_writer.specs.Texts.{assign_text}
 use Rattle.question_writer.proofs.writing.put_assign_rules.Goals as goal
