@@ -74,7 +74,8 @@ held_hit order set (both left right) h =
 held_hit order set (either left right) h =
     by_side (or_cases (may_hold order set left) (may_hold order set right) h) (held_hit order set left) (held_hit order set right)
   where
-    by_side : (may_hold order set left ≡ true) ⊎ (may_hold order set right ≡ true) → (may_hold order set left ≡ true → SomeHit set (conjuncts order left))
+    by_side : (may_hold order set left ≡ true) ⊎ (may_hold order set right ≡ true)
+        → (may_hold order set left ≡ true → SomeHit set (conjuncts order left))
         → (may_hold order set right ≡ true → SomeHit set (conjuncts order right)) → SomeHit set (conjuncts order (either left right))
     by_side (inl k) f g = some_left (λ need. HasHits set need.hits) (conjuncts order left) (conjuncts order right) (f k)
     by_side (inr k) f g = some_right (λ need. HasHits set need.hits) (conjuncts order left) (conjuncts order right) (g k)
@@ -91,7 +92,8 @@ hit_held order set (both left right) h =
 hit_held order set (either left right) h =
     by_side (some_cases (λ need. HasHits set need.hits) (conjuncts order left) (conjuncts order right) h) (hit_held order set left) (hit_held order set right)
   where
-    by_side : SomeHit set (conjuncts order left) ⊎ SomeHit set (conjuncts order right) → (SomeHit set (conjuncts order left) → may_hold order set left ≡ true)
+    by_side : SomeHit set (conjuncts order left) ⊎ SomeHit set (conjuncts order right)
+        → (SomeHit set (conjuncts order left) → may_hold order set left ≡ true)
         → (SomeHit set (conjuncts order right) → may_hold order set right ≡ true) → (may_hold order set left || may_hold order set right) ≡ true
     by_side (inl k) f g = rw (f k) refl
     by_side (inr k) f g = or_right (may_hold order set left) (may_hold order set right) (g k)
@@ -103,7 +105,8 @@ holds order set cond = (held_hit order set cond, hit_held order set cond)
 pub gains_given : (rules : Rules) (profiles : List Profile) (set : List ℕ) → HasGains rules profiles set → HasGivenRoles rules profiles set
 gains_given rules profiles set gains = record { drawn = gains.drawn; given = given }
   where
-    given : (rule : CanAssign) → IsOneOf rules.assign rule → may_give rules.order set rule ≡ true → (role : ℕ) → IsInRange rules.order rule.range role
+    given : (rule : CanAssign) → IsOneOf rules.assign rule → may_give rules.order set rule ≡ true → (role : ℕ)
+        → IsInRange rules.order rule.range role
         → IsIn set role
     given rule is gives role range =
         let b = and_both (have_common (seniors_of rules.order rule.admin) set) (may_hold rules.order set (term_of rule.cond)) gives in
@@ -114,7 +117,8 @@ pub given_gains : (rules : Rules) (profiles : List Profile) (set : List ℕ) →
 given_gains rules profiles set all = record { drawn = all.drawn; given = given }
   where
     given : (rule : CanAssign) → IsOneOf rules.assign rule → HaveCommon (seniors_of rules.order rule.admin) set → (conjunct : Need)
-        → IsOneOf (conjuncts rules.order (term_of rule.cond)) conjunct → HasHits set conjunct.hits → (role : ℕ) → IsInRange rules.order rule.range role
+        → IsOneOf (conjuncts rules.order (term_of rule.cond)) conjunct → HasHits set conjunct.hits → (role : ℕ)
+        → IsInRange rules.order rule.range role
         → IsIn set role
     given rule is common conjunct at held role range = all.given rule is
         (both_true (have_common (seniors_of rules.order rule.admin) set) (may_hold rules.order set (term_of rule.cond))

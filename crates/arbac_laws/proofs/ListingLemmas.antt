@@ -1,5 +1,6 @@
 -- The list of obligations rises: none stands twice, and an earlier one at a lesser place.
-use Rattle.std.proofs.Common.{ℕ, ◌≡◌, ◌<◌, ◌+◌, Bool, true, false, not, eqb, cond, List, [], ◌∷◌, ◌++◌, map, length, Some, arith, zero, suc, sym, ap, subst, refl, inl, inr}
+use Rattle.std.proofs.Common.{ℕ, ◌≡◌, ◌<◌, ◌+◌, Bool, true, false, not, eqb, cond, List, [], ◌∷◌, ◌++◌, map, length, Some, arith}
+use Rattle.std.proofs.Common.{zero, suc, sym, ap, subst, refl, inl, inr}
 use Rattle.std.specs.Prelude.{◌⊎◌, filter, nat_lt, slice_get}
 use Rattle.std.specs.List.{list_any}
 use Rattle.std.proofs.lemmas.Bool.Decides.{nat_tests}
@@ -20,7 +21,8 @@ use Rattle.arbac_policy.specs.declared.rule.CanRevoke.{CanRevoke}
 use Rattle.arbac_laws.specs.Conjuncts.{conjuncts}
 use Rattle.arbac_laws.specs.Listings.{obligation_before, obligation_key, pick_key}
 use Rattle.arbac_laws.specs.Needs.{Need}
-use Rattle.arbac_laws.specs.Obligations.{Obligation, assign_obligations, assigns, barring, flat, flat_places, if_wanted, is_in_range, obligations, picks, revokes, roles_in, wanting, weak_obligations}
+use Rattle.arbac_laws.specs.Obligations.{Obligation, assign_obligations, assigns, barring, flat, flat_places, if_wanted, is_in_range, obligations, picks}
+use Rattle.arbac_laws.specs.Obligations.{revokes, roles_in, wanting, weak_obligations}
 use Rattle.arbac_laws.specs.PreImages.{Pick, fresh, itself, other}
 use Rattle.arbac_laws.proofs.SetsLemmas.{each_passed}
 
@@ -48,7 +50,8 @@ each_map P f [] h = tt
 each_map P f (x ∷ xs) h = (h.0, each_map P f xs h.1)
 
 -- of places from one on
-each_places : {A B : Type 0} (P : B → Type 0) (f : ℕ → A → List B) (at low : ℕ) (xs : List A) → low < at + 1 → ((i : ℕ) (x : A) → low < i + 1 → Each P (f i x))
+each_places : {A B : Type 0} (P : B → Type 0) (f : ℕ → A → List B) (at low : ℕ) (xs : List A) → low < at + 1
+    → ((i : ℕ) (x : A) → low < i + 1 → Each P (f i x))
     → Each P (flat_places f at xs)
 each_places P f at low [] l h = tt
 each_places P f at low (x ∷ xs) l h = each_append P (f at x) (flat_places f (at + 1) xs) (h at x l) (each_places P f (at + 1) low xs (omega arith) h)
@@ -64,7 +67,8 @@ rising_flat {A} {B} less before f (x ∷ xs) r own apart =
     turn : (us : List B) (ys : List A) → Each (λ y. AllBefore before us (f y)) ys → AllBefore before us (flat f ys)
     turn [] ys h = tt
     turn (u ∷ us) ys h = (
-      each_flat (λ v. before u v ≡ true) f ys (each_weaker (λ y. AllBefore before (u ∷ us) (f y)) (λ y. Each (λ v. before u v ≡ true) (f y)) (λ y a. a.0) ys h),
+      each_flat (λ v. before u v ≡ true) f ys (each_weaker (λ y. AllBefore before (u ∷ us) (f y)) (λ y. Each (λ v. before u v ≡ true) (f y))
+          (λ y a. a.0) ys h),
       turn us ys (each_weaker (λ y. AllBefore before (u ∷ us) (f y)) (λ y. AllBefore before us (f y)) (λ y a. a.1) ys h),
     )
 
@@ -72,7 +76,8 @@ rising_flat {A} {B} less before f (x ∷ xs) r own apart =
     first ys h = turn (f x) ys (each_weaker (λ y. less x y ≡ true) (λ y. AllBefore before (f x) (f y)) (λ y l. apart x y l) ys h)
 
 -- the same by places
-rising_places : {A B : Type 0} (before : B → B → Bool) (f : ℕ → A → List B) (at : ℕ) (xs : List A) → ((i : ℕ) (x : A) → AreRising before (f i x))
+rising_places : {A B : Type 0} (before : B → B → Bool) (f : ℕ → A → List B) (at : ℕ) (xs : List A)
+    → ((i : ℕ) (x : A) → AreRising before (f i x))
     → ((i j : ℕ) (x y : A) → i < j → AllBefore before (f i x) (f j y)) → AreRising before (flat_places f at xs)
 rising_places before f at [] own apart = tt
 rising_places {A} {B} before f at (x ∷ xs) own apart =
@@ -86,7 +91,8 @@ rising_places {A} {B} before f at (x ∷ xs) own apart =
       turn us (λ j y l. (h j y l).1),
     )
 
-rising_map : {A B : Type 0} (less : A → A → Bool) (before : B → B → Bool) (f : A → B) → ((x y : A) → less x y ≡ true → before (f x) (f y) ≡ true)
+rising_map : {A B : Type 0} (less : A → A → Bool) (before : B → B → Bool) (f : A → B)
+    → ((x y : A) → less x y ≡ true → before (f x) (f y) ≡ true)
     → (xs : List A) → AreRising less xs → AreRising before (map f xs)
 rising_map less before f h [] r = tt
 rising_map less before f h (x ∷ xs) r = (
@@ -208,7 +214,8 @@ pick_before p q = set_before (pick_key p) (pick_key q)
 rising_picks : (target count : ℕ) → AreRising pick_before (picks target count)
 rising_picks target count = (
   each_append (λ q. set_before (0 ∷ []) (pick_key q) ≡ true) (map other places) (fresh ∷ [])
-      (each_map (λ q. set_before (0 ∷ []) (pick_key q) ≡ true) other places (each_all (λ k. set_before (0 ∷ []) (1 ∷ k ∷ []) ≡ true) places (λ k. refl)))
+      (each_map (λ q. set_before (0 ∷ []) (pick_key q) ≡ true) other places
+      (each_all (λ k. set_before (0 ∷ []) (1 ∷ k ∷ []) ≡ true) places (λ k. refl)))
       (refl, tt),
   rising_append pick_before (map other places) (fresh ∷ [])
       (rising_map nat_lt pick_before other (λ i j l. key_less (1 ∷ []) i j [] [] (true_less i j l)) places
@@ -222,7 +229,8 @@ rising_picks target count = (
     places = filter (λ place. not (eqb place target)) (count_up 0 count)
 
 rising_wanted : {A : Type 0} (test : A → Bool) (xs : List A) → AreRising nat_lt (flat_places (λ place x. if_wanted (test x) place) 0 xs)
-rising_wanted {A} test xs = rising_places nat_lt (λ place x. if_wanted (test x) place) 0 xs (λ i x. own (test x) i) (λ i j x y l. apart (test x) (test y) i j l)
+rising_wanted {A} test xs =
+    rising_places nat_lt (λ place x. if_wanted (test x) place) 0 xs (λ i x. own (test x) i) (λ i j x y l. apart (test x) (test y) i j l)
   where
     own : (t : Bool) (i : ℕ) → AreRising nat_lt (if_wanted t i)
     own true i = (tt, tt)
@@ -285,7 +293,8 @@ rise_to_role : (needs : List Need) (i j role : ℕ) → AreRising obligation_bef
 rise_to_role needs i j role =
     rising_flat nat_lt obligation_before (λ target. to_target (length needs) i j role target) (wanting role needs)
     (rising_wanted (λ (need : Need). list_any (λ hit. has_role hit role) need.hits) needs) (rise_to_target (length needs) i j role)
-    (λ t s l. begins_before (0 ∷ i ∷ j ∷ role ∷ []) t s (true_less t s l) (to_target (length needs) i j role t) (to_target (length needs) i j role s) (begins t)
+    (λ t s l. begins_before (0 ∷ i ∷ j ∷ role ∷ []) t s (true_less t s l) (to_target (length needs) i j role t)
+    (to_target (length needs) i j role s) (begins t)
     (begins s))
   where
     begins : (target : ℕ) → Each (Begins (0 ∷ i ∷ j ∷ role ∷ []) target) (to_target (length needs) i j role target)
@@ -364,7 +373,8 @@ rise_from_role : (needs : List Need) (i role : ℕ) → AreRising obligation_bef
 rise_from_role needs i role =
     rising_flat nat_lt obligation_before (λ target. from_target (length needs) i role target) (barring role needs)
     (rising_wanted (λ (need : Need). has_role need.lacks role) needs) (rise_from_target (length needs) i role)
-    (λ t s l. begins_before (1 ∷ i ∷ role ∷ []) t s (true_less t s l) (from_target (length needs) i role t) (from_target (length needs) i role s) (begins t)
+    (λ t s l. begins_before (1 ∷ i ∷ role ∷ []) t s (true_less t s l) (from_target (length needs) i role t) (from_target (length needs) i role s)
+    (begins t)
     (begins s))
   where
     begins : (target : ℕ) → Each (Begins (1 ∷ i ∷ role ∷ []) target) (from_target (length needs) i role target)

@@ -16,15 +16,18 @@ use Rattle.arbac_policy.specs.declared.rule.CanRevoke.{CanRevoke}
 use Rattle.arbac_laws.specs.Closed.{IsClosed, IsClosedList}
 use Rattle.arbac_laws.specs.Conjuncts.{conjuncts}
 use Rattle.arbac_laws.specs.Needs.{Meets, Need}
-use Rattle.arbac_laws.specs.Obligations.{Obligation, act_of, and_then, assign_obligations, flat, flat_places, if_wanted, obligations, picks, pre_image, roles_in, weak_obligations, assigns, revokes}
-use Rattle.arbac_laws.specs.PreImages.{AssignObligation, IsPick, Pick, WeakObligation, assign_pre_image, before_assign, before_weak, weak_pre_image, with_admin}
+use Rattle.arbac_laws.specs.Obligations.{Obligation, act_of, and_then, assign_obligations, flat, flat_places, if_wanted, obligations, picks, pre_image}
+use Rattle.arbac_laws.specs.Obligations.{roles_in, weak_obligations, assigns, revokes}
+use Rattle.arbac_laws.specs.PreImages.{AssignObligation, IsPick, Pick, WeakObligation, assign_pre_image, before_assign, before_weak, weak_pre_image}
+use Rattle.arbac_laws.specs.PreImages.{with_admin}
 use Rattle.arbac_laws.proofs.ClosedLemmas.{not_reachable}
 use Rattle.list_words.proofs.EachLemmas.{map_some, one_of_same, same_one_of, some_cases, some_left, some_map, some_right}
 use Rattle.arbac_laws.proofs.StepLemmas.{assign_leads, before_assign_step, weak_leads, before_weak_step}
 use Rattle.arbac_laws.proofs.ConjunctLemmas.{AreSeniors}
 use Rattle.arbac_laws.specs.Obligations.{wanting, barring}
 use Rattle.arbac_laws.specs.Listings.{IsAssignOf, IsObligation, IsRevokeOf}
-use Rattle.arbac_laws.proofs.FlatLemmas.{some_flat, flat_some, some_places_0, places_some_0, any_some, some_any, some_wanted, wanted_some, some_pick, pick_some, some_role, role_some}
+use Rattle.arbac_laws.proofs.FlatLemmas.{some_flat, flat_some, some_places_0, places_some_0, any_some, some_any, some_wanted, wanted_some, some_pick}
+use Rattle.arbac_laws.proofs.FlatLemmas.{pick_some, some_role, role_some}
 use Rattle.arbac_laws.specs.Needs.{MeetsBy}
 use Rattle.arbac_laws.specs.Obligations.{MeetsPreImage}
 
@@ -209,7 +212,8 @@ pub listed_is : (rules : Rules) → AreSeniors rules.order → (needs : List Nee
 listed_is rules same needs ob is =
     by_side (some_cases (λ o. o ≡ ob) (assign_obligations rules needs) (weak_obligations rules needs) (same_one_of (obligations rules needs) ob is))
   where
-    by_side : Some_of (λ o. o ≡ ob) (assign_obligations rules needs) ⊎ Some_of (λ o. o ≡ ob) (weak_obligations rules needs) → IsObligation rules needs ob
+    by_side : Some_of (λ o. o ≡ ob) (assign_obligations rules needs) ⊎ Some_of (λ o. o ≡ ob) (weak_obligations rules needs)
+        → IsObligation rules needs ob
     by_side (inl h) =
         let g = assign_found rules same needs (λ o. o ≡ ob) h in
         let parts : IsAssignOf rules needs g.is_rule.0 g.is_conjunct.0 g.role g.target g.pick = record {
@@ -329,7 +333,8 @@ in_parts rules same needs ob is b e =
 
     by_side : Some_of (λ o. o ≡ ob) (assign_obligations rules needs) ⊎ Some_of (λ o. o ≡ ob) (weak_obligations rules needs)
         → IsAssigning rules needs ob b ⊎ IsRevoking rules needs ob b
-    by_side (inl h) = let g = assign_found rules same needs (λ o. o ≡ ob) h in inl (given g (subst (λ o. pre_image rules needs o ≡ Some b) (sym g.holds) e))
+    by_side (inl h) = let g = assign_found rules same needs (λ o. o ≡ ob) h in
+        inl (given g (subst (λ o. pre_image rules needs o ≡ Some b) (sym g.holds) e))
     by_side (inr h) = let g = weak_found rules same needs (λ o. o ≡ ob) h in inr (taken g (subst (λ o. pre_image rules needs o ≡ Some b) (sym g.holds) e))
 
 pub listed_leads : (rules : Rules) → AreSeniors rules.order → (users : List (List ℕ)) (needs : List Need) (ob : Obligation)

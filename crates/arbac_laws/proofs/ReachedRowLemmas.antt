@@ -33,7 +33,8 @@ two_drawn = record { choice = 0 ∷ 0 ∷ []; drawn = record { places = places; 
     places (suc zero) place e = let same : 0 ≡ place = cc in (of_adm, ap (slice_get two_admins) (sym same))
     places (suc (suc k)) place e = cc
 
-    few : (place : ℕ) (profile : Profile) (most : ℕ) → slice_get two_admins place ≡ Some profile → profile.most ≡ Some most → times place (0 ∷ 0 ∷ []) ≤ most
+    few : (place : ℕ) (profile : Profile) (most : ℕ) → slice_get two_admins place ≡ Some profile → profile.most ≡ Some most
+        → times place (0 ∷ 0 ∷ []) ≤ most
     few zero profile most is e =
         let is' : Some of_adm ≡ Some profile = is in
         let two : Some 2 ≡ Some most = ap (λ (p : Profile). p.most) (same_some of_adm profile is') ∙ e in

@@ -104,7 +104,8 @@ role_wanted slice need role n w =
 
 before_has : (rules : Rules) → AreSeniors rules.order → (goal : List Term) (slice : Slice) → IsClosedSlice rules goal slice → (needs : List Need)
     → Each (HasNeed slice) needs
-    → (ob : Obligation) → IsOneOf (obligations rules needs) ob → (before : List Need) → pre_image rules needs ob ≡ Some before → Each (HasNeed slice) before
+    → (ob : Obligation) → IsOneOf (obligations rules needs) ob → (before : List Need) → pre_image rules needs ob ≡ Some before
+    → Each (HasNeed slice) before
 before_has rules same goal slice closed needs has ob is before e = by_parts (in_parts rules same needs ob is before e)
   where
     by_parts : IsAssigning rules needs ob before ⊎ IsRevoking rules needs ob before → Each (HasNeed slice) before
@@ -164,7 +165,8 @@ derived_has rules same goal slice closed needs (in_form {needs = earlier} derive
     form_has slice earlier needs (derived_has rules same goal slice closed earlier derived) e
 
 -- so its obligations name rules of the slice
-pub derived_relevant : (rules : Rules) → AreSeniors rules.order → (goal : List Term) (slice : Slice) → IsClosedSlice rules goal slice → (needs : List Need)
+pub derived_relevant : (rules : Rules) → AreSeniors rules.order → (goal : List Term) (slice : Slice) → IsClosedSlice rules goal slice
+    → (needs : List Need)
     → IsDerived rules goal needs → (ob : Obligation) → IsOneOf (obligations rules needs) ob → IsRelevant slice ob
 derived_relevant rules same goal slice closed needs derived ob is = by_kind ob (listed_is rules same needs ob is)
   where

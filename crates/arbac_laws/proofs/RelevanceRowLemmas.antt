@@ -68,7 +68,8 @@ pub mix_closed : IsClosedSlice mix (has c ∷ []) mix_slice
 unfolding seniors_of
 mix_closed = record { goals = ((c_needed, tt), tt); assigns = assigned; revokes = revoked }
   where
-    assigned : (place role : ℕ) (rule : CanAssign) → slice_get mix.assign place ≡ Some rule → IsInRange mix.order rule.range role → IsIn mix_slice.wanted role
+    assigned : (place role : ℕ) (rule : CanAssign) → slice_get mix.assign place ≡ Some rule → IsInRange mix.order rule.range role
+        → IsIn mix_slice.wanted role
         → HasAssign mix mix_slice place rule role
     assigned zero role rule e range wanted =
         let same : mix_rule ≡ rule = same_some mix_rule rule e in
@@ -76,7 +77,8 @@ mix_closed = record { goals = ((c_needed, tt), tt); assigns = assigned; revokes 
         subst (λ r. HasAssign mix mix_slice 0 r role) same (subst (HasAssign mix mix_slice 0 mix_rule) (sym e') c_assigned)
     assigned (suc place) role rule e range wanted = cc
 
-    revoked : (place role : ℕ) (rule : CanRevoke) → slice_get mix.revoke place ≡ Some rule → IsInRange mix.order rule.range role → IsIn mix_slice.barred role
+    revoked : (place role : ℕ) (rule : CanRevoke) → slice_get mix.revoke place ≡ Some rule → IsInRange mix.order rule.range role
+        → IsIn mix_slice.barred role
         → HasRevoke mix mix_slice place rule
     revoked zero role rule e range wanted = subst (HasRevoke mix mix_slice 0) (same_some mix_revoke rule e) adm_revoked
     revoked (suc place) role rule e range wanted = cc
@@ -127,7 +129,8 @@ adm_least = record {
 }
   where
     -- no rule gives adm
-    assigned : (place role : ℕ) (rule : CanAssign) → slice_get mix.assign place ≡ Some rule → IsInRange mix.order rule.range role → IsIn adm_slice.wanted role
+    assigned : (place role : ℕ) (rule : CanAssign) → slice_get mix.assign place ≡ Some rule → IsInRange mix.order rule.range role
+        → IsIn adm_slice.wanted role
         → HasAssign mix adm_slice place rule role
     assigned zero role rule e range wanted =
         let same : mix_rule ≡ rule = same_some mix_rule rule e in

@@ -1,5 +1,6 @@
 -- A matching of user requirements and profiles is a choice that serves the requirement.
-use Rattle.std.proofs.Common.{ℕ, ◌≡◌, ◌<◌, ◌≤◌, ◌+◌, ◌∙◌, true, cond, List, [], ◌∷◌, length, get_or, refl, arith, zero, suc, sym, subst, ap, Some, take, inl, inr}
+use Rattle.std.proofs.Common.{ℕ, ◌≡◌, ◌<◌, ◌≤◌, ◌+◌, ◌∙◌, true, cond, List, [], ◌∷◌, length, get_or, refl, arith, zero, suc}
+use Rattle.std.proofs.Common.{sym, subst, ap, Some, take, inl, inr}
 use Rattle.std.specs.Prelude.{◌↔◌, ◌==◌, ◌⊎◌, Contains, slice_get}
 use Rattle.list_words.proofs.GetLemmas.{get_within, get_any, get_at, get_there}
 use Rattle.arbac_policy.specs.declared.profile.Profile.{Profile}
@@ -77,7 +78,8 @@ matching_serves profiles needs pairs list are m = record { drawn = record { plac
         let one = met k (subst (λ n. k < n) m.whole (get_within list k place is).0) in
         (one.2.0, subst (λ p. slice_get profiles p ≡ Some one.2.0) (item_at list k place 0 is) one.2.1)
 
-    few : (place : ℕ) (profile : Profile) (most : ℕ) → slice_get profiles place ≡ Some profile → profile.most ≡ Some most → times place list ≤ most
+    few : (place : ℕ) (profile : Profile) (most : ℕ) → slice_get profiles place ≡ Some profile → profile.most ≡ Some most
+        → times place list ≤ most
     few place profile most is e = omega (arith, uses_times place list, m.within place most (capacity_there profiles place profile is ∙ e))
 
     each : (i : ℕ) (need : Need) → slice_get needs i ≡ Some need → IsServed profiles need (get_or list i 0)
@@ -170,7 +172,8 @@ drawn_serves profiles needs users drawn met = record { drawn = record { places =
     listed : (i : ℕ) → i < length needs → get_or list i 0 ≡ from i
     listed i l = get-told from (length needs) i l
 
-    served : (i : ℕ) (need : Need) → slice_get needs i ≡ Some need → (slice_get drawn.choice (met.to i) ≡ Some (from i)) × IsServed profiles need (from i)
+    served : (i : ℕ) (need : Need) → slice_get needs i ≡ Some need → (slice_get drawn.choice (met.to i) ≡ Some (from i))
+        × IsServed profiles need (from i)
     served i need is =
         let one = met.each i need is in
         let at = place_at profiles drawn.choice users drawn.are_users (met.to i) one.0 one.1 in
@@ -198,7 +201,8 @@ drawn_serves profiles needs users drawn met = record { drawn = record { places =
       each = λ i x is. let need = get_there needs i (below i x is) in (from i, (served i need.0 need.1).0, place_of i x is);
     }
 
-    few : (place : ℕ) (profile : Profile) (most : ℕ) → slice_get profiles place ≡ Some profile → profile.most ≡ Some most → times place list ≤ most
+    few : (place : ℕ) (profile : Profile) (most : ℕ) → slice_get profiles place ≡ Some profile → profile.most ≡ Some most
+        → times place list ≤ most
     few place profile most is e =
         let fewer : count (λ given. given == place) list ≤ count (λ given. given == place) drawn.choice =
         counted (λ (x y : ℕ). x ≡ y) (λ given. given == place) (λ given. given == place)
@@ -262,7 +266,8 @@ before_once first second a b = by_item (compare a.item b.item)
     by_item (inr (inr l)) = let same = same_at first second a.item b.item a.same l in let less = b.less in omega (arith, less, same)
 
 -- there is at most one least choice
-pub one_least : (profiles : List Profile) (needs : List Need) (first second : List ℕ) → ServesLeast profiles needs first → ServesLeast profiles needs second
+pub one_least : (profiles : List Profile) (needs : List Need) (first second : List ℕ) → ServesLeast profiles needs first
+    → ServesLeast profiles needs second
     → first ≡ second
 one_least profiles needs first second a b = by_cases (a.least second b.serves) (b.least first a.serves)
   where

@@ -1,5 +1,6 @@
 -- Which profiles serve small requirements.
-use Rattle.std.proofs.Common.{ℕ, ◌≡◌, ◌≤◌, ◌<◌, ◌+◌, ◌∙◌, Bool, true, false, cond, eqb, List, [], ◌∷◌, Some, get_or, arith, zero, suc, sym, subst, ap, refl, inl, inr}
+use Rattle.std.proofs.Common.{ℕ, ◌≡◌, ◌≤◌, ◌<◌, ◌+◌, ◌∙◌, Bool, true, false, cond, eqb, List, [], ◌∷◌, Some, get_or, arith}
+use Rattle.std.proofs.Common.{zero, suc, sym, subst, ap, refl, inl, inr}
 use Rattle.std.specs.Prelude.{◌⊎◌, Contains, slice_get}
 use Rattle.std.proofs.lemmas.Bool.{eqb-true}
 use Rattle.list_words.proofs.TestLemmas.{or_cases}
@@ -38,7 +39,8 @@ c_not_served s =
     omega (arith, first, second)
 
 -- a profile that has a user serves one need that its set meets
-serves_one : (profiles : List Profile) (place : ℕ) (profile : Profile) (need : Need) → slice_get profiles place ≡ Some profile → MeetsNeed need profile.set
+serves_one : (profiles : List Profile) (place : ℕ) (profile : Profile) (need : Need) → slice_get profiles place ≡ Some profile
+    → MeetsNeed need profile.set
     → ((most : ℕ) → profile.most ≡ Some most → 1 ≤ most) → Serves profiles (need ∷ []) (place ∷ [])
 serves_one profiles place profile need is met some = record { drawn = record { places = places; few = few }; long = refl; each = each }
   where
@@ -67,7 +69,8 @@ served_once =
 
 first_serves : Serves many_admins (hits adm ∷ []) (0 ∷ [])
 first_serves =
-    serves_one many_admins 0 (record { set = adm ∷ []; most = Some 1 }) (hits adm) refl adm_met (λ most e. let one = same_some 1 most e in omega (arith, one))
+    serves_one many_admins 0 (record { set = adm ∷ []; most = Some 1 }) (hits adm) refl adm_met (λ most e. let one = same_some 1 most e in
+    omega (arith, one))
 
 pub not_served_twice : Serves one_admin (hits adm ∷ hits adm ∷ []) (0 ∷ 0 ∷ []) → ⊥
 not_served_twice s = let few = s.drawn.few 0 (record { set = adm ∷ []; most = Some 1 }) 1 refl refl in omega (arith, few)
@@ -75,7 +78,8 @@ not_served_twice s = let few = s.drawn.few 0 (record { set = adm ∷ []; most = 
 pub first_least : ServesLeast many_admins (hits adm ∷ []) (0 ∷ [])
 first_least = record { serves = first_serves; least = least }
   where
-    by_place : (place : ℕ) (profile : Profile) → slice_get many_admins place ≡ Some profile → (place ∷ [] ≡ 0 ∷ []) ⊎ IsBefore (0 ∷ []) (place ∷ [])
+    by_place : (place : ℕ) (profile : Profile) → slice_get many_admins place ≡ Some profile → (place ∷ [] ≡ 0 ∷ [])
+        ⊎ IsBefore (0 ∷ []) (place ∷ [])
     by_place zero profile e = inl refl
     by_place (suc zero) profile e = inr (record { item = 0; inside = omega arith; same = refl; less = omega arith })
     by_place (suc (suc place)) profile e = cc
@@ -119,7 +123,8 @@ one_pair k place = (λ h. let at = at_contains pairs (k, place) h in paired at.0
     paired zero e = of_pair Serving (0, 0) (k, place) e (hits adm, refl, adm_served)
     paired (suc i) e = cc
 
-    served : (k place : ℕ) (need : Need) → slice_get (hits adm ∷ hits c ∷ []) k ≡ Some need → IsServed one_admin need place → Contains pairs (k, place)
+    served : (k place : ℕ) (need : Need) → slice_get (hits adm ∷ hits c ∷ []) k ≡ Some need → IsServed one_admin need place
+        → Contains pairs (k, place)
     served k (suc place) need e s = let none = s.1 in cc
     served zero zero need e s = (0, omega arith, refl)
     served (suc zero) zero need e s = let same : hits c ≡ need = cc in absurd (c_not_served (subst (λ n. IsServed one_admin n 0) (sym same) s))
@@ -157,7 +162,8 @@ two_unserved = (
         paired (suc zero) e = of_pair Serving (1, 0) (k, place) e (hits adm, refl, adm_served)
         paired (suc (suc i)) e = cc
 
-        served : (k place : ℕ) (need : Need) → slice_get (hits adm ∷ hits adm ∷ []) k ≡ Some need → IsServed one_admin need place → Contains pairs (k, place)
+        served : (k place : ℕ) (need : Need) → slice_get (hits adm ∷ hits adm ∷ []) k ≡ Some need → IsServed one_admin need place
+            → Contains pairs (k, place)
         served k (suc place) need e s = let none = s.1 in cc
         served zero zero need e s = (0, omega arith, refl)
         served (suc zero) zero need e s = (1, omega arith, refl)
@@ -180,7 +186,8 @@ two_unserved = (
         by_place (suc i) e = cc
 
     neighbour : (place : ℕ) → Contains (0 ∷ []) place → IsNeighbour pairs (0 ∷ 1 ∷ []) place
-    neighbour place h = let same = only_zero place h in subst (λ p. IsNeighbour pairs (0 ∷ 1 ∷ []) p) same (0, (0, omega arith, refl), (0, omega arith, refl))
+    neighbour place h = let same = only_zero place h in
+        subst (λ p. IsNeighbour pairs (0 ∷ 1 ∷ []) p) same (0, (0, omega arith, refl), (0, omega arith, refl))
 
     near : (place : ℕ) → IsNeighbour pairs (0 ∷ 1 ∷ []) place → Contains (0 ∷ []) place
     near place h = let at = at_contains pairs (h.0, place) h.2 in by_place at.0 at.1

@@ -12,9 +12,11 @@ use Rattle.arbac_laws.specs.Obligations.{assigns}
 use Rattle.arbac_laws.specs.Recorded.{Entry, of_goal, of_parent}
 use Rattle.arbac_laws.specs.Relevance.{Slice}
 
+-- the administrative role
 abbrev pub adm : ℕ
 adm = 0
 
+-- the role that the goal wants
 abbrev pub c : ℕ
 c = 1
 
@@ -45,12 +47,15 @@ mix = record {
 abbrev pub one_admin : List Profile
 one_admin = record { set = adm ∷ []; most = Some 1 } ∷ []
 
+-- who has the role
 abbrev pub hits : ℕ → Need
 hits role = record { hits = (role ∷ []) ∷ []; lacks = [] }
 
+-- who doesn't have the role
 abbrev pub without : ℕ → Need
 without role = record { hits = []; lacks = role ∷ [] }
 
+-- anyone at all
 abbrev pub anyone : Need
 anyone = record { hits = []; lacks = [] }
 
@@ -58,6 +63,7 @@ anyone = record { hits = []; lacks = [] }
 abbrev pub mix_needs : List (List Need)
 mix_needs = (hits c ∷ []) ∷ (without adm ∷ hits adm ∷ []) ∷ (anyone ∷ hits adm ∷ []) ∷ []
 
+-- a third role
 abbrev pub d : ℕ
 d = 2
 

@@ -16,7 +16,8 @@ ghost use Rattle.arbac_laws.specs.Serving.{IsServed, Serves, ServesLeast, counts
 ghost use Rattle.arbac_laws.specs.Recorded.{IsRecordedList};
 ghost use Rattle.arbac_laws.specs.Relevance.{HasNeed, HasAssign, HasRevoke, IsClosedSlice, IsPart, IsRelevance, IsRelevant, IsDerived};
 ghost use Rattle.arbac_laws.specs.Barriers.{IsCeiling, HasGivenRoles, may_hold, may_give, barriers};
-ghost use Rattle.arbac_laws.specs.Rows.{mix, mix_rule, mix_apart, pair_policy, giver_policy, senior_policy, adm, c, d, one_admin, two_admins, many_admins, mix_needs, mix_entries, mix_revoke, mix_slice, adm_slice};
+ghost use Rattle.arbac_laws.specs.Rows.{mix, mix_rule, mix_apart, pair_policy, giver_policy, senior_policy, adm, c, d, one_admin, two_admins, many_admins};
+ghost use Rattle.arbac_laws.specs.Rows.{mix_needs, mix_entries, mix_revoke, mix_slice, adm_slice};
 ghost use Rattle.arbac_laws.specs.Rows.{hits, hits_either, hits_both, hits_without, without, anyone, untidy};
 
 /// The goal c of a policy where members of adm give c to those without adm, and take adm away: its

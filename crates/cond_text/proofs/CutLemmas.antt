@@ -1,5 +1,6 @@
 -- Pieces of a text before a byte and behind it.
-use Rattle.std.proofs.Common.{ℕ, ◌≡◌, ◌<◌, ◌+◌, Bool, true, false, List, [], ◌∷◌, ◌++◌, length, get_or, take, drop, refl, arith, sym, ap, Option, Some, None, eqb, zero, suc, cond}
+use Rattle.std.proofs.Common.{ℕ, ◌≡◌, ◌<◌, ◌+◌, Bool, true, false, List, [], ◌∷◌, ◌++◌, length, get_or, take, drop, refl, arith}
+use Rattle.std.proofs.Common.{sym, ap, Option, Some, None, eqb, zero, suc, cond}
 use Rattle.std.proofs.lemmas.Bool.{ne_eqb, eq-eqb, eqb-true}
 use Rattle.cond_text.specs.Cuts.{◌>>=◌, only_if, cut, with_front}
 
@@ -12,7 +13,8 @@ pub only_is : {A : Type 0} (t : Bool) (x y : A) → only_if t x ≡ Some y → (
 only_is true x y e = (refl, cc)
 only_is false x y e = absurd (cc)
 
-pub cut_found : (sign : ℕ) (bytes : List ℕ) (i : ℕ) → i < length bytes → ((k : ℕ) → k < i → get_or bytes k 0 ≡ sign → ⊥) → get_or bytes i 0 ≡ sign
+pub cut_found : (sign : ℕ) (bytes : List ℕ) (i : ℕ) → i < length bytes → ((k : ℕ) → k < i → get_or bytes k 0 ≡ sign → ⊥)
+    → get_or bytes i 0 ≡ sign
     → cut sign bytes ≡ Some (take i bytes, drop (i + 1) bytes)
 unfolding cut
 cut_found sign [] i l before here = absurd (omega arith)

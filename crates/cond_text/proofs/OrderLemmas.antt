@@ -1,5 +1,6 @@
 -- A role order is refused in one way at most, and no refusal stands beside an order.
-use Rattle.std.proofs.Common.{ℕ, ◌≡◌, ◌<◌, ◌≤◌, ◌+◌, Bool, true, false, cond, ltb, List, [], ◌∷◌, length, refl, arith, sym, ◌∙◌, ap, subst, Some, None, zero, suc}
+use Rattle.std.proofs.Common.{ℕ, ◌≡◌, ◌<◌, ◌≤◌, ◌+◌, Bool, true, false, cond, ltb, List, [], ◌∷◌, length, refl, arith, sym}
+use Rattle.std.proofs.Common.{◌∙◌, ap, subst, Some, None, zero, suc}
 use Rattle.std.specs.Prelude.{slice_get, take, not, nat_lt}
 use Rattle.std.specs.List.{position_or_len}
 use Rattle.std.specs.Str.{bytes_eq}
@@ -57,11 +58,13 @@ repeated_different names first second r different =
     let same = different first second r.name at.1 r.at in
     absurd (omega (arith, at.0, same))
 
-outside_edges : (count : ℕ) (edges : List (ℕ × ℕ)) (place : ℕ) → IsFirst (λ edge. IsEdge count edge → ⊥) edges place → AreEdges count edges → ⊥
+outside_edges : (count : ℕ) (edges : List (ℕ × ℕ)) (place : ℕ) → IsFirst (λ edge. IsEdge count edge → ⊥) edges place → AreEdges count edges
+    → ⊥
 outside_edges count edges place f ends = f.holds (each_at (IsEdge count) edges place f.item ends f.at)
 
 -- no refusal stands beside an order
-pub order_clash : (names : List (List ℕ)) (edges : List (ℕ × ℕ)) (error : OrderError) → IsOrder names edges → IsRefused names edges error → (error ≡ Memory → ⊥) → ⊥
+pub order_clash : (names : List (List ℕ)) (edges : List (ℕ × ℕ)) (error : OrderError) → IsOrder names edges → IsRefused names edges error
+    → (error ≡ Memory → ⊥) → ⊥
 order_clash names edges NoRoles o r m = none_counted names r o.are_names.counted.0
 order_clash names edges (TooManyRoles count) o r m = let l = o.are_names.counted.1 in let k = r.0 in absurd (omega arith)
 order_clash names edges (BadName place) o r m = bad_named names place r.1 o.are_names.named
@@ -115,7 +118,8 @@ many_counted : (names : List (List ℕ)) → MOST_ROLES < length names → lengt
 many_counted names l k = absurd (omega arith)
 
 -- names and edges are refused in one way
-pub refusal_one : (names : List (List ℕ)) (edges : List (ℕ × ℕ)) (a b : OrderError) → IsRefused names edges a → IsRefused names edges b → (a ≡ Memory → ⊥) → (b ≡ Memory → ⊥) → a ≡ b
+pub refusal_one : (names : List (List ℕ)) (edges : List (ℕ × ℕ)) (a b : OrderError) → IsRefused names edges a → IsRefused names edges b
+    → (a ≡ Memory → ⊥) → (b ≡ Memory → ⊥) → a ≡ b
 refusal_one names edges Memory b r s m n = absurd (m refl)
 refusal_one names edges NoRoles Memory r s m n = absurd (n refl)
 refusal_one names edges NoRoles NoRoles r s m n = refl

@@ -1,5 +1,6 @@
 -- A range between two names is read from its spelling, and from that alone.
-use Rattle.std.proofs.Common.{ℕ, ◌≡◌, Bool, true, false, List, [], ◌∷◌, ◌++◌, length, refl, sym, ◌∙◌, ap, subst, Option, Some, None, eqb, cond}
+use Rattle.std.proofs.Common.{ℕ, ◌≡◌, Bool, true, false, List, [], ◌∷◌, ◌++◌, length, refl, sym, ◌∙◌, ap, subst, Option, Some, None}
+use Rattle.std.proofs.Common.{eqb, cond}
 use Rattle.std.specs.Prelude.{codes}
 use Rattle.std.proofs.lemmas.Bool.{eqb-true}
 use Rattle.cond_text.specs.Cuts.{IsName, cut, name_in}
@@ -15,7 +16,10 @@ closed_found high h = rw (cut_behind 93 high [] (name_lacks 93 high refl h)) ref
 open_found : (high : List ℕ) → IsName high → closing_in (high ++ codes ")") ≡ Some (high, true)
 unfolding closing_in
 open_found high h =
-    rw (cut_nowhere 93 (high ++ codes ")") (lacks_append 93 high (codes ")") (name_lacks 93 high refl h) (refl, tt)), cut_behind 41 high [] (name_lacks 41 high refl h)) refl
+    rw (
+      cut_nowhere 93 (high ++ codes ")") (lacks_append 93 high (codes ")") (name_lacks 93 high refl h) (refl, tt)),
+      cut_behind 41 high [] (name_lacks 41 high refl h),
+    ) refl
 
 end_found : (high : List ℕ) (is_open : Bool) → IsName high → closing_in (high ++ closing_text is_open) ≡ Some (high, is_open)
 end_found high true h = open_found high h
@@ -58,7 +62,8 @@ unfolding opening_in
 start_is [] p e = absurd (cc)
 start_is (b ∷ bs) p e = by_square (eqb b 91) refl e
   where
-    begun : (is_open : Bool) (sign : ℕ) → opening_text is_open ≡ sign ∷ [] → eqb b sign ≡ true → Some (is_open, bs) ≡ Some p → opening_text p.0 ++ p.1 ≡ b ∷ bs
+    begun : (is_open : Bool) (sign : ℕ) → opening_text is_open ≡ sign ∷ [] → eqb b sign ≡ true → Some (is_open, bs) ≡ Some p
+        → opening_text p.0 ++ p.1 ≡ b ∷ bs
     begun is_open sign text t e =
         let P : Bool × List ℕ → Type 0 = λ q. opening_text q.0 ++ q.1 ≡ b ∷ bs in
         subst P (same_some (is_open, bs) p e) (ap (λ s. s ++ bs) text ∙ ap (λ c. c ∷ bs) (sym (eqb-true b sign t)))
@@ -67,14 +72,17 @@ start_is (b ∷ bs) p e = by_square (eqb b 91) refl e
     by_round true t e = begun true 40 refl t e
     by_round false t e = absurd (cc)
 
-    by_square : (t : Bool) → eqb b 91 ≡ t → cond t (Some (false, bs)) (cond (eqb b 40) (Some (true, bs)) None) ≡ Some p → opening_text p.0 ++ p.1 ≡ b ∷ bs
+    by_square : (t : Bool) → eqb b 91 ≡ t → cond t (Some (false, bs)) (cond (eqb b 40) (Some (true, bs)) None) ≡ Some p
+        → opening_text p.0 ++ p.1 ≡ b ∷ bs
     by_square true t e = begun false 91 refl t e
     by_square false t e = by_round (eqb b 40) refl e
 
-closed_is : (is_open : Bool) (sign : ℕ) (text : List ℕ) (p : List ℕ × Bool) → closed_by is_open (cut sign text) ≡ Some p → (p.0 ++ (sign ∷ []) ≡ text) × (p.1 ≡ is_open)
+closed_is : (is_open : Bool) (sign : ℕ) (text : List ℕ) (p : List ℕ × Bool) → closed_by is_open (cut sign text) ≡ Some p
+    → (p.0 ++ (sign ∷ []) ≡ text) × (p.1 ≡ is_open)
 closed_is is_open sign text p e = by_cut (cut sign text) refl e
   where
-    by_cut : (o : Option (List ℕ × List ℕ)) → cut sign text ≡ o → closed_by is_open o ≡ Some p → (p.0 ++ (sign ∷ []) ≡ text) × (p.1 ≡ is_open)
+    by_cut : (o : Option (List ℕ × List ℕ)) → cut sign text ≡ o → closed_by is_open o ≡ Some p → (p.0 ++ (sign ∷ []) ≡ text)
+        × (p.1 ≡ is_open)
     by_cut None c e = absurd (cc)
     by_cut (Some q) c e =
         let o = only_is (eqb (length q.1) 0) (q.0, is_open) p e in

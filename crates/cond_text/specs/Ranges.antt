@@ -10,6 +10,7 @@ pub record NamedRange : Type 0 where
   pub low_open : Bool
   pub high_open : Bool
 
+-- both ends are names
 abbrev pub IsNamedRange : NamedRange → Type 0
 IsNamedRange range = IsName range.low × IsName range.high
 
@@ -34,10 +35,12 @@ unfoldable pub opening_in : List ℕ → Option (Bool × List ℕ)
 opening_in [] = None
 opening_in (b ∷ bs) = if b == byte_of (codes "[") then Some (false, bs) else if b == byte_of (codes "(") then Some (true, bs) else None
 
+-- the name behind which nothing but the bracket stands, and whether the end is open
 abbrev pub closed_by : Bool → Option (List ℕ × List ℕ) → Option (List ℕ × Bool)
 closed_by is_open None = None
 closed_by is_open (Some found) = only_if (length found.1 == 0) (found.0, is_open)
 
+-- the same, by a round bracket where there is no square one
 abbrev pub or_open : List ℕ → Option (List ℕ × List ℕ) → Option (List ℕ × Bool)
 or_open text None = closed_by true (cut (byte_of (codes ")")) text)
 or_open text (Some found) = closed_by false (Some found)

@@ -1,7 +1,8 @@
 //! The search for an augmenting path: an alternating path to a place with room, whose moves are of
 //! later items.
 
-ghost use Rattle.std.specs.Prelude.{◌≡◌, ◌+◌, ◌<◌, true, false, MatchBool, length, slice_set, slice_index_or, ◌∷◌, ◌++◌, [], Contains, IfOk, OnOk};
+ghost use Rattle.std.specs.Prelude.{◌≡◌, ◌+◌, ◌<◌, true, false, MatchBool, length, slice_set, slice_index_or, ◌∷◌, ◌++◌, []};
+ghost use Rattle.std.specs.Prelude.{Contains, IfOk, OnOk};
 ghost use Rattle.hall_match.specs.Rows.{lists, row_at, AreInside, RowsRise};
 ghost use Rattle.hall_match.specs.Search.{instance, IsRowSeen, IsClosed, IsSearch, IsFound, GoesOn, IsUserAt, IsReady, IsFoundFrom, IsClosedWith, IsOutcome};
 

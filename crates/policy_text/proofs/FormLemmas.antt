@@ -10,7 +10,8 @@ use Rattle.arbac_policy.specs.declared.act.ActKind.TheVariants.{Assign, Weak, St
 use Rattle.cond_text.specs.Cuts.{cut, IsName}
 use Rattle.cond_text.specs.Ranges.{NamedRange, IsNamedRange, spell_range}
 use Rattle.policy_text.specs.LineForms.{LineForm, a_role, an_edge, an_assign, a_revoke, a_user, an_act, a_goal, IsWellFormed, spell, spell_kind, spell_names}
-use Rattle.policy_text.specs.Spelling.{text_in, kind_in, role_in, edge_in, assign_in, revoke_in, user_in, words, names_behind, act_in, goal_in, keyword_in, form_of}
+use Rattle.policy_text.specs.Spelling.{text_in, kind_in, role_in, edge_in, assign_in, revoke_in, user_in, words, names_behind, act_in, goal_in, keyword_in}
+use Rattle.policy_text.specs.Spelling.{form_of}
 use Rattle.cond_text.proofs.CutLemmas.{Lacks, cut_behind, cut_nowhere, lacks_append}
 use Rattle.cond_text.proofs.NamedLemmas.{name_lacks, name_found}
 use Rattle.policy_text.proofs.WordLemmas.{words_cut, words_one}
@@ -41,7 +42,8 @@ assign_found admin range condition h k l =
       text_found condition l,
     ) refl
 
-revoke_found : (admin : List ℕ) (range : NamedRange) → IsName admin → IsNamedRange range → revoke_in (admin ++ (32 ∷ spell_range range)) ≡ Some (a_revoke admin range)
+revoke_found : (admin : List ℕ) (range : NamedRange) → IsName admin → IsNamedRange range → revoke_in (admin ++ (32 ∷ spell_range range)) ≡ Some
+    (a_revoke admin range)
 unfolding revoke_in
 revoke_found admin range h k = rw (cut_behind 32 admin (spell_range range) (name_lacks 32 admin refl h), name_found admin h, range_found range k) refl
 
@@ -49,7 +51,8 @@ words_found : (name : List ℕ) (names : List (List ℕ)) → IsName name → Ea
 words_found name [] h k =
     words_one (name ++ []) (cut_nowhere 32 (name ++ []) (lacks_append 32 name [] (name_lacks 32 name refl h) tt)) ∙ ap (λ n. n ∷ []) (append-nil name)
 words_found name (next ∷ names) h k =
-    words_cut (name ++ (32 ∷ (next ++ spell_names names))) name (next ++ spell_names names) (cut_behind 32 name (next ++ spell_names names) (name_lacks 32 name refl h))
+    words_cut (name ++ (32 ∷ (next ++ spell_names names))) name (next ++ spell_names names)
+    (cut_behind 32 name (next ++ spell_names names) (name_lacks 32 name refl h))
     ∙ ap (λ t. name ∷ t) (words_found next names k.0 k.1)
 
 all_names : (before names : List (List ℕ)) → Each IsName names → names_behind before names ≡ Some (before ++ names)
@@ -57,7 +60,8 @@ unfolding names_behind
 all_names before [] h = ap Some (sym (append-nil before))
 all_names before (name ∷ names) h = rw h.0 (all_names (before ++ name ∷ []) names h.1 ∙ ap Some (append_assoc before (name ∷ []) names))
 
-user_found : (name : List ℕ) (names : List (List ℕ)) → IsName name → Each IsName names → user_in (name ++ spell_names names) ≡ Some (a_user (name ∷ names))
+user_found : (name : List ℕ) (names : List (List ℕ)) → IsName name → Each IsName names
+    → user_in (name ++ spell_names names) ≡ Some (a_user (name ∷ names))
 unfolding user_in
 user_found name names h k = rw (words_found name names h k, all_names [] (name ∷ names) (h, k)) refl
 

@@ -44,7 +44,8 @@ unfolding split
 nothing_left [] e f = refl
 nothing_left (b ∷ bs) e f = by_byte (eqb b 10) (split bs) e f
   where
-    by_byte : (t : Bool) (s : List (List ℕ) × List ℕ) → (cond t (after_feed s) (in_front b s)).0 ≡ [] → (cond t (after_feed s) (in_front b s)).1 ≡ [] → length (b ∷ bs) ≡ 0
+    by_byte : (t : Bool) (s : List (List ℕ) × List ℕ) → (cond t (after_feed s) (in_front b s)).0 ≡ []
+        → (cond t (after_feed s) (in_front b s)).1 ≡ [] → length (b ∷ bs) ≡ 0
     by_byte true s e f = absurd (cc)
     by_byte false ([], part) e f = absurd (cc)
     by_byte false (l ∷ ls, part) e f = absurd (cc)

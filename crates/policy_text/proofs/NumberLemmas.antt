@@ -49,18 +49,23 @@ unled text h first =
     let same : eqb (get_or text 0 0) 48 ≡ true = eq-eqb (get_or text 0 0) 48 first in
     eqb-true (length text) 1 (rw same at h)
 
-value_is : (text : List ℕ) → is_numeral text ≡ true → ltb (digits_value 10 text) (2 ^ 32) ≡ true → (digits_value 10 text < 2 ^ 32) × (decimal (digits_value 10 text) ≡ text)
+value_is : (text : List ℕ) → is_numeral text ≡ true → ltb (digits_value 10 text) (2 ^ 32) ≡ true → (digits_value 10 text < 2 ^ 32)
+    × (decimal (digits_value 10 text) ≡ text)
 unfolding is_numeral
 value_is text numeral small =
-    let less : digits_value 10 text < 2 ^ 32 = grind (arith, nat_tests) in
-    (less, decimal-digits_value own text (digits_of text numeral) (numeral_long text numeral) (unled text ((and_both _ _ numeral).1)) (fits (digits_value 10 text) less))
+    let less : digits_value 10 text < 2 ^ 32 = grind (arith, nat_tests) in (
+      less,
+      decimal-digits_value own text (digits_of text numeral) (numeral_long text numeral) (unled text ((and_both _ _ numeral).1))
+          (fits (digits_value 10 text) less),
+    )
 
 -- what is read as a number is its digits
 pub number_is : (text : List ℕ) (n : ℕ) → number_in text ≡ Some n → (n < 2 ^ 32) × (decimal n ≡ text)
 unfolding number_in
 number_is text n e = by_test (is_numeral text && ltb (digits_value 10 text) (2 ^ 32)) refl e
   where
-    by_test : (t : Bool) → (is_numeral text && ltb (digits_value 10 text) (2 ^ 32)) ≡ t → only_if t (digits_value 10 text) ≡ Some n → (n < 2 ^ 32) × (decimal n ≡ text)
+    by_test : (t : Bool) → (is_numeral text && ltb (digits_value 10 text) (2 ^ 32)) ≡ t → only_if t (digits_value 10 text) ≡ Some n → (n < 2 ^ 32)
+        × (decimal n ≡ text)
     by_test true t e =
         let same : digits_value 10 text ≡ n = cc in
         let P : ℕ → Type 0 = λ m. (m < 2 ^ 32) × (decimal m ≡ text) in

@@ -1,5 +1,6 @@
 -- What is read as a form is a line that the form spells.
-use Rattle.std.proofs.Common.{ℕ, ◌≡◌, Bool, true, false, List, [], ◌∷◌, ◌++◌, append_assoc, refl, sym, ◌∙◌, ap, subst, Option, Some, None, eqb, cond}
+use Rattle.std.proofs.Common.{ℕ, ◌≡◌, Bool, true, false, List, [], ◌∷◌, ◌++◌, append_assoc, refl, sym, ◌∙◌, ap, subst, Option, Some}
+use Rattle.std.proofs.Common.{None, eqb, cond}
 use Rattle.std.specs.Prelude.{codes}
 use Rattle.std.specs.Fmt.{decimal}
 use Rattle.std.specs.Str.{IsUtf8, is_utf8, bytes_eq}
@@ -15,7 +16,8 @@ use Rattle.policy_text.specs.declared.line.Keyword.TheVariants as k
 use Rattle.cond_text.specs.Cuts.{cut, IsName, only_if, name_in}
 use Rattle.cond_text.specs.Ranges.{spell_range, range_in}
 use Rattle.policy_text.specs.LineForms.{LineForm, a_role, an_edge, an_assign, a_revoke, a_user, an_act, a_goal, IsWellFormed, spell, spell_kind, spell_names}
-use Rattle.policy_text.specs.Spelling.{text_in, number_in, kind_in, role_in, edge_in, assign_in, revoke_in, user_in, words, in_first, names_behind, act_in, goal_in, keyword_in, form_with, form_by, form_of}
+use Rattle.policy_text.specs.Spelling.{text_in, number_in, kind_in, role_in, edge_in, assign_in, revoke_in, user_in, words, in_first, names_behind, act_in}
+use Rattle.policy_text.specs.Spelling.{goal_in, keyword_in, form_with, form_by, form_of}
 use Rattle.cond_text.proofs.CutLemmas.{step_of, only_is, cut_is}
 use Rattle.cond_text.proofs.NamedLemmas.{named}
 use Rattle.policy_text.proofs.NumberLemmas.{number_is}
@@ -100,11 +102,13 @@ unfolding words
 words_spelled [] = refl
 words_spelled (b ∷ bs) = by_byte (eqb b 32) refl (words_spelled bs)
   where
-    by_byte : (t : Bool) → eqb b 32 ≡ t → spell_names (words bs) ≡ 32 ∷ bs → spell_names (cond t ([] ∷ words bs) (in_first b (words bs))) ≡ 32 ∷ (b ∷ bs)
+    by_byte : (t : Bool) → eqb b 32 ≡ t → spell_names (words bs) ≡ 32 ∷ bs
+        → spell_names (cond t ([] ∷ words bs) (in_first b (words bs))) ≡ 32 ∷ (b ∷ bs)
     by_byte true t tail = let at : b ≡ 32 = eqb-true b 32 t in ap (λ l. 32 ∷ l) (tail ∙ ap (λ c. c ∷ bs) (sym at))
     by_byte false t tail = in_first_spelled b (words bs) bs tail
 
-names_are : (before more names : List (List ℕ)) → names_behind before more ≡ Some names → Each IsName before → Each IsName names × (before ++ more ≡ names)
+names_are : (before more names : List (List ℕ)) → names_behind before more ≡ Some names → Each IsName before → Each IsName names
+    × (before ++ more ≡ names)
 unfolding names_behind
 names_are before [] names e h =
     let same : before ≡ names = cc in
@@ -117,7 +121,8 @@ names_are before (word ∷ more) names e h =
     by_name (is_name word) refl e (λ f t. names_are (before ++ word ∷ []) more names f (each_append IsName before (word ∷ []) h (t, tt)))
   where
     by_name : (t : Bool) → is_name word ≡ t → cond t (names_behind (before ++ word ∷ []) more) None ≡ Some names
-        → (names_behind (before ++ word ∷ []) more ≡ Some names → is_name word ≡ true → Each IsName names × ((before ++ word ∷ []) ++ more ≡ names)) → Each IsName names × (before ++ (word ∷ more) ≡ names)
+        → (names_behind (before ++ word ∷ []) more ≡ Some names → is_name word ≡ true → Each IsName names
+        × ((before ++ word ∷ []) ++ more ≡ names)) → Each IsName names × (before ++ (word ∷ more) ≡ names)
     by_name true t e later = let r = later e t in (r.0, sym (append_assoc before (word ∷ []) more) ∙ r.1)
     by_name false t e later = absurd (cc)
 
@@ -130,7 +135,8 @@ user_is rest form e =
     subst (Spells (codes "user " ++ rest)) same (n.0, ap (λ t. codes "user" ++ spell_names t) (sym n.1) ∙ ap (λ t. codes "user" ++ t) (words_spelled rest))
 
 -- a word is what is found by it
-pick : {K : Type 0} (word text : List ℕ) (a b : K) (o : Option K) (spelled : K → List ℕ) → spelled a ≡ text → cond (bytes_eq word text) (Some a) o ≡ Some b → (o ≡ Some b → word ≡ spelled b) → word ≡ spelled b
+pick : {K : Type 0} (word text : List ℕ) (a b : K) (o : Option K) (spelled : K → List ℕ) → spelled a ≡ text
+    → cond (bytes_eq word text) (Some a) o ≡ Some b → (o ≡ Some b → word ≡ spelled b) → word ≡ spelled b
 pick {K} word text a b o spelled is e later = by_test (bytes_eq word text) refl e
   where
     by_test : (t : Bool) → bytes_eq word text ≡ t → cond t (Some a) o ≡ Some b → word ≡ spelled b
@@ -200,7 +206,8 @@ keyword_is word keyword e =
     (λ e. pick word (codes "goal") k.Goal keyword _ keyword_text refl e (λ e. absurd (cc))))))))
 
 -- a line with a keyword
-with_keyword : (keyword : Keyword) (rest : List ℕ) (form : LineForm) → form_with (Some keyword) rest ≡ Some form → Spells (keyword_text keyword ++ (32 ∷ rest)) form
+with_keyword : (keyword : Keyword) (rest : List ℕ) (form : LineForm) → form_with (Some keyword) rest ≡ Some form
+    → Spells (keyword_text keyword ++ (32 ∷ rest)) form
 with_keyword k.Role rest form e = role_is rest form e
 with_keyword k.Edge rest form e = edge_is rest form e
 with_keyword k.Assign rest form e = assign_is rest form e
@@ -220,7 +227,8 @@ pub form_is : (line : List ℕ) (form : LineForm) → form_of line ≡ Some form
 unfolding form_of
 form_is line form e = by_cut (cut 32 line) refl e
   where
-    by_keyword : (word rest : List ℕ) (o : Option Keyword) → keyword_in word ≡ o → form_with o rest ≡ Some form → Spells (word ++ (32 ∷ rest)) form
+    by_keyword : (word rest : List ℕ) (o : Option Keyword) → keyword_in word ≡ o → form_with o rest ≡ Some form
+        → Spells (word ++ (32 ∷ rest)) form
     by_keyword word rest None f e = absurd (cc)
     by_keyword word rest (Some keyword) f e =
         let P : List ℕ → Type 0 = λ t. Spells (t ++ (32 ∷ rest)) form in

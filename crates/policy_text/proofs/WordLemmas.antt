@@ -1,5 +1,6 @@
 -- Names, texts and numbers: what the code finds is what the definitions say.
-use Rattle.std.proofs.Common.{ℕ, ◌≡◌, ◌<◌, ◌^◌, Bool, true, false, List, [], ◌∷◌, ◌++◌, length, refl, arith, rules, ◌∙◌, ap, Option, Some, None, Result, Ok, Err, eqb, ltb, zero, suc, cond, map}
+use Rattle.std.proofs.Common.{ℕ, ◌≡◌, ◌<◌, ◌^◌, Bool, true, false, List, [], ◌∷◌, ◌++◌, length, refl, arith, rules, ◌∙◌, ap}
+use Rattle.std.proofs.Common.{Option, Some, None, Result, Ok, Err, eqb, ltb, zero, suc, cond, map}
 use Rattle.std.specs.Prelude.{not, ◌&&◌}
 use Rattle.std.specs.List.{list_all}
 use Rattle.std.specs.Result.{result_ok, OkIff}
@@ -45,7 +46,8 @@ digits_of bytes h = (and_both (list_all is_ascii_digit bytes) _ ((and_both (list
 
 pub numeral_long : (bytes : List ℕ) → is_numeral bytes ≡ true → 0 < length bytes
 unfolding is_numeral
-numeral_long bytes h = longer bytes ((and_both (list_all is_ascii_digit bytes) _ ((and_both (list_all is_ascii_digit bytes && not (eqb (length bytes) 0)) _ h).0)).1)
+numeral_long bytes h =
+    longer bytes ((and_both (list_all is_ascii_digit bytes) _ ((and_both (list_all is_ascii_digit bytes && not (eqb (length bytes) 0)) _ h).0)).1)
   where
     longer : (bytes : List ℕ) → not (eqb (length bytes) 0) ≡ true → 0 < length bytes
     longer [] e = absurd (cc)
@@ -63,7 +65,8 @@ numeral_text bytes h = IsUtf8-from_ascii bytes (small bytes (digits_of bytes h))
     small (b ∷ bs) h zero = digit_small b ((and_both (is_ascii_digit b) _ h).0)
     small (b ∷ bs) h (suc i) = small bs ((and_both (is_ascii_digit b) _ h).1) i
 
-pub number_parsed : {E : Type 0} (bytes : List ℕ) (r : Result ℕ E) → is_numeral bytes ≡ true → ParsesUnsigned 32 10 bytes r → result_ok r ≡ number_in bytes
+pub number_parsed : {E : Type 0} (bytes : List ℕ) (r : Result ℕ E) → is_numeral bytes ≡ true → ParsesUnsigned 32 10 bytes r
+    → result_ok r ≡ number_in bytes
 unfolding number_in
 number_parsed {E} bytes r h parses = by_result r (parse_digits own 32 bytes r parses (digits_of bytes h))
   where
@@ -85,7 +88,8 @@ words_cut [] word rest e = cc
 words_cut (b ∷ bs) word rest e = by_byte (eqb b 32) e (words_cut bs)
   where
     by_byte : (t : Bool) → cond t (Some ([], bs)) (with_front b (cut 32 bs)) ≡ Some (word, rest)
-        → ((w r : List ℕ) → cut 32 bs ≡ Some (w, r) → words bs ≡ w ∷ words r) → cond t ([] ∷ words bs) (in_first b (words bs)) ≡ word ∷ words rest
+        → ((w r : List ℕ) → cut 32 bs ≡ Some (w, r) → words bs ≡ w ∷ words r)
+        → cond t ([] ∷ words bs) (in_first b (words bs)) ≡ word ∷ words rest
     by_byte true e later = let same = same_pair ([], bs) (word, rest) e in rw (← same.0, ← same.1)
     by_byte false e later = by_rest (cut 32 bs) refl e later
       where
@@ -110,22 +114,26 @@ words_one (b ∷ bs) e = by_byte (eqb b 32) e (words_one bs)
         by_rest None f e later = rw (later f) refl
 
 -- one word more, which is a name
-pub names_more : (before more : List (List ℕ)) (bytes word rest name : List ℕ) → cut 32 bytes ≡ Some (word, rest) → Some name ≡ name_in word → more ≡ before ++ name ∷ []
+pub names_more : (before more : List (List ℕ)) (bytes word rest name : List ℕ) → cut 32 bytes ≡ Some (word, rest) → Some name ≡ name_in word
+    → more ≡ before ++ name ∷ []
     → names_behind more (words rest) ≡ names_behind before (words bytes)
 unfolding names_behind
 names_more before more bytes word rest name e n is =
     let k = name_is word name n in
     rw (words_cut bytes word rest e, k.0, is, k.1) refl
 
-pub names_stop : (before : List (List ℕ)) (bytes word rest : List ℕ) → cut 32 bytes ≡ Some (word, rest) → None ≡ name_in word → names_behind before (words bytes) ≡ None
+pub names_stop : (before : List (List ℕ)) (bytes word rest : List ℕ) → cut 32 bytes ≡ Some (word, rest) → None ≡ name_in word
+    → names_behind before (words bytes) ≡ None
 unfolding names_behind
 names_stop before bytes word rest e n = rw (words_cut bytes word rest e, no_name word n) refl
 
-pub names_last : (before more : List (List ℕ)) (bytes name : List ℕ) → cut 32 bytes ≡ None → Some name ≡ name_in bytes → more ≡ before ++ name ∷ [] → names_behind before (words bytes) ≡ Some more
+pub names_last : (before more : List (List ℕ)) (bytes name : List ℕ) → cut 32 bytes ≡ None → Some name ≡ name_in bytes → more ≡ before ++ name ∷ []
+    → names_behind before (words bytes) ≡ Some more
 unfolding names_behind
 names_last before more bytes name e n is = let k = name_is bytes name n in rw (words_one bytes e, k.0, is, k.1) refl
 
-pub names_no_last : (before : List (List ℕ)) (bytes : List ℕ) → cut 32 bytes ≡ None → None ≡ name_in bytes → names_behind before (words bytes) ≡ None
+pub names_no_last : (before : List (List ℕ)) (bytes : List ℕ) → cut 32 bytes ≡ None → None ≡ name_in bytes
+    → names_behind before (words bytes) ≡ None
 unfolding names_behind
 names_no_last before bytes e n = rw (words_one bytes e, no_name bytes n) refl
 

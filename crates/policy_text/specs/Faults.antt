@@ -44,7 +44,8 @@ pub record IsPlaced (run : RunValue) (line : List ℕ) (form : LineForm) : Type 
 -- behind what the run says so far the line is at fault: it has no form or is out of place, and is no `end` behind a goal;
 -- or its kind is used up; or it has an unknown name; or its condition has a fault
 abbrev pub IsLineFault : RunValue → List ℕ → ℕ → RunError → Type 0
-IsLineFault run line number (BadLine at) = (at ≡ number) × ((form : LineForm) → ¬ IsPlaced run line form) × (line ≡ codes "end" → length run.goal ≡ 0)
+IsLineFault run line number (BadLine at) =
+    (at ≡ number) × ((form : LineForm) → ¬ IsPlaced run line form) × (line ≡ codes "end" → length run.goal ≡ 0)
 IsLineFault run line number (TooMany at) = (at ≡ number) × (form : LineForm) × IsPlaced run line form × (¬ HasRoom run form)
 IsLineFault run line number (UnknownRole at) = (at ≡ number) × (form : LineForm) × IsPlaced run line form × HasRoom run form × HasUnknown run.names form
 IsLineFault run line number (Cond at error) =

@@ -48,6 +48,7 @@ condition_of (a_revoke admin range) = []
 condition_of (a_user names) = []
 condition_of (an_act kind admin target role) = []
 
+-- the word of an act's kind
 abbrev pub spell_kind : ActKind → List ℕ
 spell_kind Assign = codes "assign"
 spell_kind Weak = codes "weak"

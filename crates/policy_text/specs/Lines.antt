@@ -8,6 +8,7 @@ abbrev pub in_front : ℕ → List (List ℕ) × List ℕ → List (List ℕ) ×
 in_front b ([], part) = ([], b ∷ part)
 in_front b (line ∷ lines, part) = ((b ∷ line) ∷ lines, part)
 
+-- lines behind a line feed: one more, still empty
 abbrev pub after_feed : List (List ℕ) × List ℕ → List (List ℕ) × List ℕ
 after_feed rest = ([] ∷ rest.0, rest.1)
 
@@ -16,6 +17,7 @@ unfoldable pub split : List ℕ → List (List ℕ) × List ℕ
 split [] = ([], [])
 split (b ∷ bs) = if b == byte_of (codes "\n") then after_feed (split bs) else in_front b (split bs)
 
+-- what stands before a cut, or the whole line
 abbrev pub front_or : List ℕ → Option (List ℕ × List ℕ) → List ℕ
 front_or line None = line
 front_or line (Some found) = found.0

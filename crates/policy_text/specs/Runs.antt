@@ -45,6 +45,7 @@ pub record IsForUsers (rules : Rules) : Type 0 where
   pub revokep : rules.revokep ≡ []
   pub exclusive : rules.exclusive ≡ []
 
+-- a run of which nothing is said yet
 abbrev pub nothing : RunValue
 nothing = record { names = []; edges = []; assign = []; revoke = []; start = []; acts = []; goal = [] }
 
@@ -52,18 +53,23 @@ nothing = record { names = []; edges = []; assign = []; revoke = []; start = [];
 abbrev pub behind_acts : RunValue → ℕ
 behind_acts run = length run.goal
 
+-- how many lines of later sections stand behind the users
 abbrev pub behind_users : RunValue → ℕ
 behind_users run = length run.acts + behind_acts run
 
+-- how many stand behind the rules that take roles
 abbrev pub behind_revokes : RunValue → ℕ
 behind_revokes run = length run.start + behind_users run
 
+-- how many stand behind the rules that give roles
 abbrev pub behind_assigns : RunValue → ℕ
 behind_assigns run = length run.revoke + behind_revokes run
 
+-- how many stand behind the edges
 abbrev pub behind_edges : RunValue → ℕ
 behind_edges run = length run.assign + behind_assigns run
 
+-- how many stand behind the roles
 abbrev pub behind_roles : RunValue → ℕ
 behind_roles run = length run.edges + behind_edges run
 
@@ -96,11 +102,13 @@ Extends run (an_assign admin range condition) next =
     (rule : AssignRule) × Names run.names admin rule.admin × NamesRange run.names range rule.range × ReadsAs run.names condition rule.cond
     × (next ≡ record run { assign = run.assign ++ rule ∷ [] })
 Extends run (a_revoke admin range) next =
-    (rule : CanRevoke) × Names run.names admin rule.admin × NamesRange run.names range rule.range × (next ≡ record run { revoke = run.revoke ++ rule ∷ [] })
+    (rule : CanRevoke) × Names run.names admin rule.admin × NamesRange run.names range rule.range
+    × (next ≡ record run { revoke = run.revoke ++ rule ∷ [] })
 Extends run (a_user names) next =
     (set : List ℕ) × NamesSet run.names names set × (next ≡ record run { start = run.start ++ set ∷ [] })
 Extends run (an_act kind admin target role) next =
-    (act : Act) × (act.kind ≡ kind) × (act.admin ≡ admin) × (act.target ≡ target) × Names run.names role act.role × (next ≡ record run { acts = run.acts ++ act ∷ [] })
+    (act : Act) × (act.kind ≡ kind) × (act.admin ≡ admin) × (act.target ≡ target) × Names run.names role act.role
+    × (next ≡ record run { acts = run.acts ++ act ∷ [] })
 Extends run (a_goal condition) next = (term : Term) × ReadsAs run.names condition term × (next ≡ record run { goal = run.goal ++ term ∷ [] })
 
 -- the line is right behind what the run says so far, and makes it the next

@@ -1,5 +1,6 @@
 -- The form that a line has, computed. The laws say that it is the one form that the line spells.
-use Rattle.std.specs.Prelude.{ℕ, ◌==◌, ◌&&◌, ◌||◌, nat_lt, ◌^◌, Bool, not, if◌then◌else◌, List, [], ◌∷◌, ◌++◌, length, Option, Some, None, codes}
+use Rattle.std.specs.Prelude.{ℕ, ◌==◌, ◌&&◌, ◌||◌, nat_lt, ◌^◌, Bool, not, if◌then◌else◌, List, [], ◌∷◌, ◌++◌, length}
+use Rattle.std.specs.Prelude.{Option, Some, None, codes}
 use Rattle.std.specs.List.{list_all}
 use Rattle.std.specs.Char.{is_ascii_digit}
 use Rattle.std.specs.Str.{bytes_eq, is_utf8}
@@ -13,6 +14,7 @@ use Rattle.cond_text.specs.Cuts.{cut, byte_of, ◌>>=◌, only_if, name_in}
 use Rattle.cond_text.specs.Ranges.{range_in}
 use Rattle.policy_text.specs.LineForms.{LineForm, a_role, an_edge, an_assign, a_revoke, a_user, an_act, a_goal}
 
+-- the text, where it is UTF-8
 unfoldable pub text_in : List ℕ → Option (List ℕ)
 text_in text = only_if (is_utf8 text) text
 
@@ -20,18 +22,23 @@ text_in text = only_if (is_utf8 text) text
 unfoldable pub is_numeral : List ℕ → Bool
 is_numeral text = list_all is_ascii_digit text && not (length text == 0) && (not (byte_of text == byte_of (codes "0")) || (length text == 1))
 
+-- the number of 32 bits that the text is
 unfoldable pub number_in : List ℕ → Option ℕ
 number_in text = only_if (is_numeral text && nat_lt (digits_value 10 text) (2 ^ 32)) (digits_value 10 text)
 
+-- the kind that the word names
 unfoldable pub kind_in : List ℕ → Option ActKind
 kind_in word =
-    if bytes_eq word (codes "assign") then Some Assign else if bytes_eq word (codes "weak") then Some Weak else if bytes_eq word (codes "strong") then Some Strong else None
+    if bytes_eq word (codes "assign") then Some Assign else if bytes_eq word (codes "weak") then Some Weak else if bytes_eq word
+    (codes "strong") then Some Strong else None
 
+-- what stands behind `role `
 unfoldable pub role_in : List ℕ → Option LineForm
 role_in rest = do
   name ← name_in rest
   Some (a_role name)
 
+-- what stands behind `edge `
 unfoldable pub edge_in : List ℕ → Option LineForm
 edge_in rest = do
   words ← cut (byte_of (codes " ")) rest
@@ -39,6 +46,7 @@ edge_in rest = do
   junior ← name_in words.1
   Some (an_edge senior junior)
 
+-- what stands behind `assign `
 unfoldable pub assign_in : List ℕ → Option LineForm
 assign_in rest = do
   first ← cut (byte_of (codes " ")) rest
@@ -48,6 +56,7 @@ assign_in rest = do
   condition ← text_in second.1
   Some (an_assign admin range condition)
 
+-- what stands behind `revoke `
 unfoldable pub revoke_in : List ℕ → Option LineForm
 revoke_in rest = do
   words ← cut (byte_of (codes " ")) rest
@@ -55,6 +64,7 @@ revoke_in rest = do
   range ← range_in words.1
   Some (a_revoke admin range)
 
+-- the words, the first with one more byte in front
 abbrev pub in_first : ℕ → List (List ℕ) → List (List ℕ)
 in_first b [] = (b ∷ []) ∷ []
 in_first b (word ∷ words) = (b ∷ word) ∷ words
@@ -69,11 +79,13 @@ unfoldable pub names_behind : List (List ℕ) → List (List ℕ) → Option (Li
 names_behind before [] = Some before
 names_behind before (word ∷ more) = if is_name word then names_behind (before ++ word ∷ []) more else None
 
+-- what stands behind `user `
 unfoldable pub user_in : List ℕ → Option LineForm
 user_in rest = do
   names ← names_behind [] (words rest)
   Some (a_user names)
 
+-- what stands behind `act `
 unfoldable pub act_in : List ℕ → Option LineForm
 act_in rest = do
   first ← cut (byte_of (codes " ")) rest
@@ -85,11 +97,13 @@ act_in rest = do
   role ← name_in third.1
   Some (an_act kind admin target role)
 
+-- what stands behind `goal `
 unfoldable pub goal_in : List ℕ → Option LineForm
 goal_in rest = do
   condition ← text_in rest
   Some (a_goal condition)
 
+-- the form's first word that this is
 unfoldable pub keyword_in : List ℕ → Option Keyword
 keyword_in word =
     if bytes_eq word (codes "role") then Some k.Role else if bytes_eq word (codes "edge") then Some k.Edge
@@ -108,6 +122,7 @@ form_with (Some k.Act) rest = act_in rest
 form_with (Some k.Goal) rest = goal_in rest
 form_with None rest = None
 
+-- the form of a line by its cut at the first space
 abbrev pub form_by : List ℕ → Option (List ℕ × List ℕ) → Option LineForm
 form_by line None = only_if (bytes_eq line (codes "user")) (a_user [])
 form_by line (Some found) = form_with (keyword_in found.0) found.1

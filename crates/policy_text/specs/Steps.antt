@@ -47,7 +47,8 @@ abbrev pub IsFormFault : RunValue → LineForm → ℕ → RunError → Type 0
 IsFormFault run form number (BadLine at) = (at ≡ number) × (¬ MayStand run form)
 IsFormFault run form number (TooMany at) = (at ≡ number) × MayStand run form × (¬ HasRoom run form)
 IsFormFault run form number (UnknownRole at) = (at ≡ number) × MayStand run form × HasRoom run form × HasUnknown run.names form
-IsFormFault run form number (Cond at error) = (at ≡ number) × MayStand run form × HasRoom run form × (¬ HasUnknown run.names form) × HasCondFault run.names form error
+IsFormFault run form number (Cond at error) =
+    (at ≡ number) × MayStand run form × HasRoom run form × (¬ HasUnknown run.names form) × HasCondFault run.names form error
 IsFormFault run form number (Order error) = ⊥
 IsFormFault run form number Unended = ⊥
 IsFormFault run form number Memory = Unit {0}

@@ -5,6 +5,7 @@ use Rattle.policy_text.specs.declared.line.Line.TheVariants as v
 use Rattle.cond_text.specs.Ranges.{range_view}
 use Rattle.policy_text.specs.LineForms.{LineForm, a_role, an_edge, an_assign, a_revoke, a_user, an_act, a_goal}
 
+-- the form of a line as the code has it
 abbrev pub form_of_line : Line → LineForm
 form_of_line (v.Role name) = a_role name.now
 form_of_line (v.Edge senior junior) = an_edge senior.now junior.now

@@ -7,7 +7,8 @@ ghost use Rattle.std.specs.Option.{option_map};
 ghost use Rattle.cond_text.specs.Ranges.{range_in, range_view};
 ghost use Rattle.cond_text.specs.Cuts.{name_in};
 ghost use Rattle.policy_text.specs.Spelling as spelling;
-ghost use Rattle.policy_text.specs.Spelling.{text_in, number_in, kind_in, role_in, edge_in, assign_in, revoke_in, user_in, names_behind, words, act_in, goal_in, keyword_in, form_of};
+ghost use Rattle.policy_text.specs.Spelling.{text_in, number_in, kind_in, role_in, edge_in, assign_in, revoke_in, user_in, names_behind, words, act_in};
+ghost use Rattle.policy_text.specs.Spelling.{goal_in, keyword_in, form_of};
 ghost use Rattle.policy_text.specs.Views.{form_of_line};
 
 use crate::lines::is;

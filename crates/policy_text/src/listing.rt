@@ -1,6 +1,7 @@
 //! The lines of a run text that tell the role order.
 
-ghost use Rattle.std.specs.Prelude.{ℕ, ◌≡◌, ◌<◌, ◌≤◌, ◌+◌, ◌^◌, true, false, Some, length, vec_len, IfOk, IfErr, IfSome, IfNone, OnOk};
+ghost use Rattle.std.specs.Prelude.{ℕ, ◌≡◌, ◌<◌, ◌≤◌, ◌+◌, ◌^◌, true, false, Some, length, vec_len, IfOk, IfErr, IfSome, IfNone};
+ghost use Rattle.std.specs.Prelude.{OnOk};
 ghost use Rattle.role_order.specs.Names.{texts};
 ghost use Rattle.cond_text.specs.Cuts as cuts;
 ghost use Rattle.policy_text.specs.Lines as lines;

@@ -29,7 +29,8 @@ kind_no_pair Strong rules users old admin target role r pair (inl h) = h
 kind_no_pair Strong rules users old admin target role r pair (inr h) = by_case h.4
   where
     by_case : (Exclusive r pair ≡ NoRole role) × (length rules.order.names ≤ role)
-        ⊎ ((role < length rules.order.names) × WeaksDenied permission rules users old admin target (falling permission rules.order h.1 role) (Exclusive r pair))
+        ⊎ ((role < length rules.order.names) × WeaksDenied permission rules users old admin target (falling permission rules.order h.1 role)
+        (Exclusive r pair))
         → ⊥
     by_case (inl k) = let e : Exclusive r pair ≡ NoRole role = k.0 in cc
     by_case (inr k) = weaks_no_pair rules users old admin target (falling permission rules.order h.1 role) r pair k.1

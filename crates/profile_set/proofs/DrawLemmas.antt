@@ -3,7 +3,8 @@ use Rattle.std.proofs.lemmas.Bool.{eqb-true}
 use Rattle.std.proofs.lemmas.Bool.Decides.{nat_tests}
 use Rattle.std.proofs.lemmas.Grind.{get_or-set_at}
 use Rattle.std.proofs.lemmas.List.{get_or-replicate, get_or-set_other, take-take}
-use Rattle.std.proofs.Common.{ℕ, ◌≡◌, ◌<◌, ◌≤◌, ◌+◌, ◌-◌, Bool, true, false, eqb, ltb, List, [], ◌∷◌, ◌++◌, length, length-take, take, get_or, refl, arith, zero, suc, sym, subst, ap, ◌∙◌, inl, inr, Option, Some, None}
+use Rattle.std.proofs.Common.{ℕ, ◌≡◌, ◌<◌, ◌≤◌, ◌+◌, ◌-◌, Bool, true, false, eqb, ltb, List, [], ◌∷◌, ◌++◌, length}
+use Rattle.std.proofs.Common.{length-take, take, get_or, refl, arith, zero, suc, sym, subst, ap, ◌∙◌, inl, inr, Option, Some, None}
 use Rattle.std.specs.Prelude.{slice_get, slice_set, replicate, ◌⊎◌, ◌==◌, if◌then◌else◌}
 use Rattle.list_words.proofs.GetLemmas.{get_last_cases, get_take, get_taken, take_one_more}
 use Rattle.list_words.proofs.NumberLemmas.{compare}
@@ -71,14 +72,17 @@ pub uses_none : (from : ℕ) → AreUses from [] (replicate 1024 0)
 uses_none from i l = get_or-replicate 1024 i 0 0 l
 
 -- what the list has for a number of the block
-pub used_of : (from : ℕ) (xs : List ℕ) (x : ℕ) (used : List ℕ) → from ≤ x → x - from < 1024 → AreUses from xs used → get_or used (x - from) 0 ≡ times x xs
+pub used_of : (from : ℕ) (xs : List ℕ) (x : ℕ) (used : List ℕ) → from ≤ x → x - from < 1024 → AreUses from xs used
+    → get_or used (x - from) 0 ≡ times x xs
 used_of from xs x used low high are = let n : from + (x - from) ≡ x = omega arith in are (x - from) high ∙ ap (λ k. times k xs) n
 
-pub uses_here : (from : ℕ) (xs : List ℕ) (i x : ℕ) (used : List ℕ) → slice_get xs i ≡ Some x → from ≤ x → x - from < 1024 → length used ≡ 1024
+pub uses_here : (from : ℕ) (xs : List ℕ) (i x : ℕ) (used : List ℕ) → slice_get xs i ≡ Some x → from ≤ x → x - from < 1024
+    → length used ≡ 1024
     → AreUses from (take i xs) used → AreUses from (take (i + 1) xs) (slice_set used (x - from) (get_or used (x - from) 0 + 1))
 uses_here from xs i x used e low high long are j l = by_place (compare j (x - from))
   where
-    other : (from + j ≡ x → ⊥) → (j ≡ x - from → ⊥) → get_or (slice_set used (x - from) (get_or used (x - from) 0 + 1)) j 0 ≡ times (from + j) (take (i + 1) xs)
+    other : (from + j ≡ x → ⊥) → (j ≡ x - from → ⊥) → get_or (slice_set used (x - from) (get_or used (x - from) 0 + 1)) j 0 ≡ times (from + j)
+        (take (i + 1) xs)
     other n m = get_or-set_other used (x - from) j (get_or used (x - from) 0 + 1) 0 m ∙ are j l ∙ sym (times_other (from + j) xs i x e (λ s. n (sym s)))
 
     by_place : (j < x - from) ⊎ ((j ≡ x - from) ⊎ (x - from < j))
@@ -91,7 +95,8 @@ uses_here from xs i x used e low high long are j l = by_place (compare j (x - fr
     by_place (inr (inr h)) = other (λ s. omega arith) (λ s. omega arith)
 
 -- a number outside of the block
-pub uses_other : (from : ℕ) (xs : List ℕ) (i x : ℕ) (used : List ℕ) → slice_get xs i ≡ Some x → ((j : ℕ) → j < 1024 → from + j ≡ x → ⊥)
+pub uses_other : (from : ℕ) (xs : List ℕ) (i x : ℕ) (used : List ℕ) → slice_get xs i ≡ Some x
+    → ((j : ℕ) → j < 1024 → from + j ≡ x → ⊥)
     → AreUses from (take i xs) used → AreUses from (take (i + 1) xs) used
 uses_other from xs i x used e out are j l = are j l ∙ sym (times_other (from + j) xs i x e (λ s. out j l (sym s)))
 
@@ -135,7 +140,8 @@ spent_of profiles number used (Some profile) e h = by_most profile.most refl
         let past : ltb used most ≡ false = ap (λ o. is_below o used) (sym m) ∙ h in
         inr (profile, most, e, m, grind (arith, nat_tests))
 
-pub spent_at : (profiles : List Profile) (xs : List ℕ) (i x : ℕ) → slice_get xs i ≡ Some x → has_left (slice_get profiles x) (times x (take i xs)) ≡ false
+pub spent_at : (profiles : List Profile) (xs : List ℕ) (i x : ℕ) → slice_get xs i ≡ Some x
+    → has_left (slice_get profiles x) (times x (take i xs)) ≡ false
     → IsSpentAt profiles xs i
 spent_at profiles xs i x e h = (x, e, spent_of profiles x (times x (take i xs)) (slice_get profiles x) refl h)
 
@@ -161,7 +167,8 @@ pub record IsDrawnBelow (profiles : List Profile) (count : ℕ) (xs : List ℕ) 
   pub spent : place < length xs → IsSpentAt profiles xs place
 
 -- one block more, counted in the front of the choice
-pub block_more : (profiles : List Profile) (from to : ℕ) (xs : List ℕ) (end next : ℕ) → IsDrawnBelow profiles from xs end → next ≤ length (take end xs)
+pub block_more : (profiles : List Profile) (from to : ℕ) (xs : List ℕ) (end next : ℕ) → IsDrawnBelow profiles from xs end
+    → next ≤ length (take end xs)
     → AreFew profiles from to (take next (take end xs)) → (next < length (take end xs) → IsSpentAt profiles (take end xs) next)
     → IsDrawnBelow profiles to xs next
 block_more profiles from to xs end next so within few spent = record {

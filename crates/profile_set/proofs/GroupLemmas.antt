@@ -1,5 +1,6 @@
 -- Profiles that rise by their sets and count users.
-use Rattle.std.proofs.Common.{ℕ, ◌≡◌, ◌<◌, ◌≤◌, ◌+◌, ◌^◌, ◌∙◌, ◌⊎◌, Bool, true, false, cond, List, [], ◌∷◌, ◌++◌, length, Option, Some, zero, suc, refl, ap, sym, subst, arith, inl, inr, take}
+use Rattle.std.proofs.Common.{ℕ, ◌≡◌, ◌<◌, ◌≤◌, ◌+◌, ◌^◌, ◌∙◌, ◌⊎◌, Bool, true, false, cond, List, [], ◌∷◌}
+use Rattle.std.proofs.Common.{◌++◌, length, Option, Some, zero, suc, refl, ap, sym, subst, arith, inl, inr, take}
 use Rattle.std.specs.Prelude.{slice_get, slice_set, slice_index_or, insert}
 use Rattle.std.specs.Str.{bytes_eq}
 use Rattle.std.specs.List.Sorted.{IsPartitionedBy, IsPartitionPoint}
@@ -109,12 +110,14 @@ tally_with x set (p ∷ ps) = go (set_before p.set set) (set_before set p.set) r
     raised false n more = omega arith
 
     go : (s t : Bool) → set_before p.set set ≡ s → set_before set p.set ≡ t → tally x (with_member ps set) ≡ tally x ps + cond (bytes_eq set x) 1 0
-        → tally x (cond s (p ∷ with_member ps set) (cond t (first_of set ∷ p ∷ ps) (with_one p ∷ ps))) ≡ tally x (p ∷ ps) + cond (bytes_eq set x) 1 0
+        → tally x (cond s (p ∷ with_member ps set) (cond t (first_of set ∷ p ∷ ps) (with_one p ∷ ps))) ≡ tally x (p ∷ ps) + cond
+        (bytes_eq set x) 1 0
     go true t e f more = omega (arith, more)
     go false true e f more = omega arith
     go false false e f more =
         let same = same_set p.set set e f in
-        subst (λ (s : List ℕ). cond (bytes_eq p.set x) (number_of p.most + 1) 0 + tally x ps ≡ cond (bytes_eq p.set x) (number_of p.most) 0 + tally x ps + cond
+        subst (λ (s : List ℕ). cond (bytes_eq p.set x) (number_of p.most + 1) 0 + tally x ps ≡ cond (bytes_eq p.set x)
+        (number_of p.most) 0 + tally x ps + cond
         (bytes_eq s x) 1 0) same (raised (bytes_eq p.set x) (number_of p.most) (tally x ps))
 
 holders_last : (x m : List ℕ) (ms : List (List ℕ)) → holders x (ms ++ m ∷ []) ≡ holders x ms + cond (bytes_eq m x) 1 0
@@ -207,12 +210,14 @@ group_of members ps h = record {
 
 -- one group
 
-no_holder : (x : List ℕ) (ps : List Profile) (members : List (List ℕ)) → Each (λ set. Some_of (λ p. p.set ≡ set) ps) members → (Some_of (λ p. p.set ≡ x) ps → ⊥)
+no_holder : (x : List ℕ) (ps : List Profile) (members : List (List ℕ)) → Each (λ set. Some_of (λ p. p.set ≡ set) ps) members
+    → (Some_of (λ p. p.set ≡ x) ps → ⊥)
     → holders x members ≡ 0
 no_holder x ps [] all none = refl
 no_holder x ps (m ∷ ms) all none =
     let more = no_holder x ps ms all.1 none in
-    rw (not_false (bytes_eq m x) (λ e. none (subst (λ (s : List ℕ). Some_of (λ p. p.set ≡ s) ps) ((bytes_eq-Decides m x).0 e) all.0))) (omega (arith, more))
+    rw (not_false (bytes_eq m x) (λ e. none (subst (λ (s : List ℕ). Some_of (λ p. p.set ≡ s) ps) ((bytes_eq-Decides m x).0 e) all.0)))
+    (omega (arith, more))
 
 told_or_none : (h : List ℕ → ℕ) (ps : List Profile) → RiseBySet ps → Each (λ p. (p.most ≡ Some (h p.set)) × (1 ≤ h p.set)) ps → (x : List ℕ)
     → (tally x ps ≡ h x) ⊎ ((tally x ps ≡ 0) × (Some_of (λ p. p.set ≡ x) ps → ⊥))
@@ -220,7 +225,8 @@ told_or_none h [] r k x = inr (refl, λ e. e)
 told_or_none h (p ∷ ps) r k x = go (bytes_eq p.set x) refl (told_or_none h ps r.1 k.1 x)
   where
     go : (t : Bool) → bytes_eq p.set x ≡ t → (tally x ps ≡ h x) ⊎ ((tally x ps ≡ 0) × (Some_of (λ p. p.set ≡ x) ps → ⊥))
-        → (cond t (number_of p.most) 0 + tally x ps ≡ h x) ⊎ ((cond t (number_of p.most) 0 + tally x ps ≡ 0) × (Some_of (λ p. p.set ≡ x) (p ∷ ps) → ⊥))
+        → (cond t (number_of p.most) 0 + tally x ps ≡ h x)
+        ⊎ ((cond t (number_of p.most) 0 + tally x ps ≡ 0) × (Some_of (λ p. p.set ≡ x) (p ∷ ps) → ⊥))
     go true e more =
         let same = (bytes_eq-Decides p.set x).0 e in
         let none = none_after p.set ps r.0 in
@@ -254,7 +260,8 @@ ahead p q ps qs r c b same =
     (b, each_weaker (λ r. set_before q.set r.set ≡ true) (λ r. set_before p.set r.set ≡ true) (λ r k. set_order.through p.set q.set r.set b k) qs r) in
     omega (arith, head, number, some, none, same)
 
-tallies_one : (a b : List Profile) → RiseBySet a → RiseBySet b → Each IsCounted a → Each IsCounted b → ((x : List ℕ) → tally x a ≡ tally x b) → a ≡ b
+tallies_one : (a b : List Profile) → RiseBySet a → RiseBySet b → Each IsCounted a → Each IsCounted b → ((x : List ℕ) → tally x a ≡ tally x b)
+    → a ≡ b
 tallies_one [] [] r s c d same = refl
 tallies_one [] (q ∷ qs) r s c d same =
     let (count, is, some) = d.0 in let head = tally_head q qs in let number : number_of q.most ≡ count = ap number_of is in let e = same q.set in
@@ -264,7 +271,8 @@ tallies_one (p ∷ ps) [] r s c d same =
     absurd (omega (arith, head, number, some, e))
 tallies_one (p ∷ ps) (q ∷ qs) r s c d same = go (set_order.total p.set q.set) (tallies_one ps qs r.1 s.1 c.1 d.1)
   where
-    go : (set_before p.set q.set ≡ true) ⊎ ((p.set ≡ q.set) ⊎ (set_before q.set p.set ≡ true)) → (((x : List ℕ) → tally x ps ≡ tally x qs) → ps ≡ qs)
+    go : (set_before p.set q.set ≡ true) ⊎ ((p.set ≡ q.set) ⊎ (set_before q.set p.set ≡ true))
+        → (((x : List ℕ) → tally x ps ≡ tally x qs) → ps ≡ qs)
         → p ∷ ps ≡ q ∷ qs
     go (inl b) more = absurd (ahead p q ps qs s.0 c.0 b (same p.set))
     go (inr (inr b)) more = absurd (ahead q p qs ps r.0 d.0 b (sym (same q.set)))
@@ -275,7 +283,8 @@ tallies_one (p ∷ ps) (q ∷ qs) r s c d same = go (set_order.total p.set q.set
         let right : tally q.set (q ∷ qs) ≡ other = tally_head q qs ∙ rw (none_after q.set qs s.0, also) (omega arith) in
         let counts : count ≡ other = sym left ∙ same p.set ∙ subst (λ (x : List ℕ). tally x (q ∷ qs) ≡ other) (sym e) right in
         let heads : p ≡ q = profile_same p q e (is ∙ ap Some counts ∙ sym also) in
-        let tails : ps ≡ qs = more (λ x. let all = same x in let with : tally x (p ∷ ps) ≡ tally x (q ∷ ps) = ap (λ (r : Profile). tally x (r ∷ ps)) heads in
+        let tails : ps ≡ qs = more
+        (λ x. let all = same x in let with : tally x (p ∷ ps) ≡ tally x (q ∷ ps) = ap (λ (r : Profile). tally x (r ∷ ps)) heads in
         omega (arith, all, with)) in
         ap (λ (r : Profile). r ∷ ps) heads ∙ ap (λ (t : List Profile). q ∷ t) tails
 

@@ -1,5 +1,6 @@
 -- What a read of a record takes of a text, and that the records read in turn are the text's.
-use Rattle.std.proofs.Common.{refl, ap, sym, ◌≡◌, ◌∙◌, ◌<◌, ◌≤◌, ◌+◌, arith, ℕ, zero, suc, Bool, true, false, cond, ◌==◌, ◌&&◌, List, [], ◌∷◌, ◌++◌, length, Option, Some, None, length-append}
+use Rattle.std.proofs.Common.{refl, ap, sym, ◌≡◌, ◌∙◌, ◌<◌, ◌≤◌, ◌+◌, arith, ℕ, zero, suc, Bool, true, false, cond, ◌==◌}
+use Rattle.std.proofs.Common.{◌&&◌, List, [], ◌∷◌, ◌++◌, length, Option, Some, None, length-append}
 use Rattle.std.specs.Option.{unwrap_or}
 use Rattle.std.proofs.lemmas.Bool.{false≢true}
 use Rattle.csv.specs.declared.parser.Config.{Config}
@@ -28,7 +29,8 @@ unfolding next_record
 shorter cfg s fs f c [] p e = go (is_end (step cfg s c).1) e
   where
     go : (b : Bool) → cond b (Some (fields_after (step cfg s c).1 fs f, (step cfg s c).0, []))
-        (next_record cfg (step cfg s c).0 (fields_after (step cfg s c).1 fs f) (field_after (step cfg s c).1 c f) []) ≡ Some p → length p.2 ≤ length {A = ℕ} []
+        (next_record cfg (step cfg s c).0 (fields_after (step cfg s c).1 fs f) (field_after (step cfg s c).1 c f) []) ≡ Some p
+        → length p.2 ≤ length {A = ℕ} []
     go true e = let q : 0 ≡ length p.2 = ap (λ (o : Option Read). length (unwrap_or o p).2) e in omega arith
     go false e = let q : 0 ≡ length p.2 = ap length (at_nothing cfg _ _ _ p e) in omega arith
 shorter cfg s fs f c (d ∷ rest) p e =
@@ -95,7 +97,8 @@ settled_after cfg s fs f (c ∷ rest) p e =
     (λ q. settled_after cfg (step cfg s c).0 (fields_after (step cfg s c).1 fs f) (field_after (step cfg s c).1 c f) rest p q) e
   where
     go : (b : Bool) → is_end (step cfg s c).1 ≡ b
-        → (next_record cfg (step cfg s c).0 (fields_after (step cfg s c).1 fs f) (field_after (step cfg s c).1 c f) rest ≡ Some p → ends_at_end p.1 ≡ false)
+        → (next_record cfg (step cfg s c).0 (fields_after (step cfg s c).1 fs f) (field_after (step cfg s c).1 c f) rest ≡ Some p
+        → ends_at_end p.1 ≡ false)
         → cond b (Some (fields_after (step cfg s c).1 fs f, (step cfg s c).0, rest))
         (next_record cfg (step cfg s c).0 (fields_after (step cfg s c).1 fs f) (field_after (step cfg s c).1 c f) rest) ≡ Some p → ends_at_end p.1 ≡ false
     go true is ih e = sym (ap (λ (o : Option Read). ends_at_end (unwrap_or o p).1) e) ∙ settled cfg s c is
@@ -160,7 +163,8 @@ pub size_read : (cfg : Config) (s : State) (fs : Fields) (f : List ℕ) (xs : Li
 unfolding next_record
 size_read cfg s fs f [] p e = go (ends_at_end s) e
   where
-    go : (b : Bool) → cond b (Some (fs ++ (f ∷ []), st.StartRecord, [])) None ≡ Some p → size p.0 + length p.2 ≤ size fs + length f + length {A = ℕ} []
+    go : (b : Bool) → cond b (Some (fs ++ (f ∷ []), st.StartRecord, [])) None ≡ Some p
+        → size p.0 + length p.2 ≤ size fs + length f + length {A = ℕ} []
     go true e =
         let fields : size (fs ++ f ∷ []) ≡ size p.0 = ap (λ (o : Option Read). size (unwrap_or o p).0) e in
         let left : 0 ≡ length p.2 = ap (λ (o : Option Read). length (unwrap_or o p).2) e in

@@ -1,5 +1,6 @@
 -- Records that stand for rows, and the first fault of a text.
-use Rattle.std.proofs.Common.{ℕ, ◌≡◌, ◌≤◌, ◌+◌, ◌∙◌, Bool, true, false, cond, List, [], ◌∷◌, ◌++◌, append_assoc, length, Option, Some, None, Result, Ok, refl, ap, sym, subst, arith, inl, inr, suc}
+use Rattle.std.proofs.Common.{ℕ, ◌≡◌, ◌≤◌, ◌+◌, ◌∙◌, Bool, true, false, cond, List, [], ◌∷◌, ◌++◌, append_assoc, length}
+use Rattle.std.proofs.Common.{Option, Some, None, Result, Ok, refl, ap, sym, subst, arith, inl, inr, suc}
 use Rattle.csv.specs.Records.{AllText, Row, fields_of}
 use Rattle.csv.specs.Reading.{stops_reader}
 use Rattle.csv.specs.declared.error.Error.{Error}
@@ -41,7 +42,8 @@ ascii_is_text bytes h = IsUtf8-from_ascii bytes (go bytes h)
   where
     go : (bytes : List ℕ) → list_all (λ b. nat_lt b 128) bytes ≡ true → IsAscii bytes
     go [] h = IsAscii-nil
-    go (b ∷ bs) h = let (here, more) = and_parts (nat_lt b 128) (list_all (λ b. nat_lt b 128) bs) h in IsAscii-cons b bs (grind (arith, nat_tests)) (go bs more)
+    go (b ∷ bs) h = let (here, more) = and_parts (nat_lt b 128) (list_all (λ b. nat_lt b 128) bs) h in
+        IsAscii-cons b bs (grind (arith, nat_tests)) (go bs more)
 
 header_is_text : AllText header
 unfolding AllText
@@ -58,12 +60,14 @@ few rem names bytes it rows h =
 
 -- the header
 
-pub no_record : {R : Type 0} (rem : R → Option (List ℕ)) (names : List (List ℕ)) (bytes : List ℕ) (a b : StringRecordsIntoIter R) → HasRead rem bytes a []
+pub no_record : {R : Type 0} (rem : R → Option (List ℕ)) (names : List (List ℕ)) (bytes : List ℕ) (a b : StringRecordsIntoIter R)
+    → HasRead rem bytes a []
     → Steps rem a None b
     → IsRefused names bytes (BadRow 1)
 no_record rem names bytes a b h steps = inl (refl, λ later e. let none = step_end rem bytes a b [] h steps in cc)
 
-pub first_refused : {R : Type 0} (rem : R → Option (List ℕ)) (names : List (List ℕ)) (bytes : List ℕ) (a b : StringRecordsIntoIter R) (given : Result Row Error)
+pub first_refused : {R : Type 0} (rem : R → Option (List ℕ)) (names : List (List ℕ)) (bytes : List ℕ) (a b : StringRecordsIntoIter R)
+    (given : Result Row Error)
     (told : MembersError)
     → HasRead rem bytes a [] → Steps rem a (Some given) b → IsToldFor given 1 told → IsRefused names bytes told
 first_refused {R} rem names bytes a b given told h steps t =
@@ -141,7 +145,8 @@ fault_behind names bytes before rows fields later (UnknownRole at) right all f =
     }
 fault_behind names bytes before rows fields later Memory right all f = tt
 
-pub row_refused : {R : Type 0} (rem : R → Option (List ℕ)) (names : List (List ℕ)) (bytes : List ℕ) (a b : StringRecordsIntoIter R) (rows : List MemberRow)
+pub row_refused : {R : Type 0} (rem : R → Option (List ℕ)) (names : List (List ℕ)) (bytes : List ℕ) (a b : StringRecordsIntoIter R)
+    (rows : List MemberRow)
     (x : Row) (number : ℕ) (told : MembersError)
     → IsReadTo rem names bytes a rows → Steps rem a (Some (Ok x)) b → number ≡ length rows + 2 → IsRowRefused names (fields_of x) number told
     → IsRefused names bytes told
@@ -151,9 +156,11 @@ row_refused rem names bytes a b rows x number told h steps n f =
     (all ∙ ap (λ (t : List (List (List ℕ))). header ∷ t) (append_assoc h.before (fields_of x ∷ []) later))
     (subst (λ (k : ℕ). IsRowRefused names (fields_of x) k told) n f)
 
-pub record_refused : {R : Type 0} (rem : R → Option (List ℕ)) (names : List (List ℕ)) (bytes : List ℕ) (a b : StringRecordsIntoIter R) (rows : List MemberRow)
+pub record_refused : {R : Type 0} (rem : R → Option (List ℕ)) (names : List (List ℕ)) (bytes : List ℕ) (a b : StringRecordsIntoIter R)
+    (rows : List MemberRow)
     (given : Result Row Error) (number : ℕ) (told : MembersError)
-    → IsReadTo rem names bytes a rows → Steps rem a (Some given) b → number ≡ length rows + 2 → IsToldFor given number told → IsRefused names bytes told
+    → IsReadTo rem names bytes a rows → Steps rem a (Some given) b → number ≡ length rows + 2 → IsToldFor given number told
+    → IsRefused names bytes told
 record_refused {R} rem names bytes a b rows given number told h steps n t =
     subst (IsRefused names bytes) (sym t.told_is) (go (stops_reader t.refusal.kind) refl)
   where

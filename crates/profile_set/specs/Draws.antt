@@ -26,7 +26,8 @@ AreProfiles profiles choice = (k number : ℕ) → slice_get choice k ≡ Some n
 -- of the profiles from one to below another none stands in the choice beyond its count
 abbrev pub AreFew : List Profile → ℕ → ℕ → List ℕ → Type 0
 AreFew profiles from to choice =
-    (number : ℕ) (profile : Profile) (most : ℕ) → from ≤ number → number < to → slice_get profiles number ≡ Some profile → profile.most ≡ Some most
+    (number : ℕ) (profile : Profile) (most : ℕ) → from ≤ number → number < to → slice_get profiles number ≡ Some profile
+    → profile.most ≡ Some most
     → times number choice ≤ most
 
 -- the places before are a drawn choice, and at this one, unless it is the end, nothing is left of the number

@@ -3,6 +3,7 @@ use Rattle.std.specs.Prelude.{◌≡◌}
 use Rattle.arbac_policy.specs.declared.TheConstants.{MOST_EDGES, MOST_RULES, MOST_GOALS}
 use Rattle.question_text.specs.declared.TheConstants.{MOST_PAIRS, MOST_PROFILES, MOST_OF_PROFILE}
 
+-- the limits by number
 pub record AreLimits : Type 0 where
   pub edges : MOST_EDGES ≡ 10000
   pub rules : MOST_RULES ≡ 1000

@@ -33,20 +33,24 @@ pub record IsCondition (count : ℕ) (cond : Term) : Type 0 where
   pub known : IsKnown count cond
   pub few : term_count cond ≤ MOST_TERMS
 
+-- each number in the rule is a role, and its condition is within the limits
 pub record IsAssignRule (count : ℕ) (rule : AssignRule) : Type 0 where
   pub admin : rule.admin < count
   pub cond : IsCondition count rule.cond
   pub range : IsKnownRange count rule.range
   pub narrow : width rule.cond ≤ MOST_CONJUNCTS
 
+-- each number in the rule is a role
 pub record IsRevokeRule (count : ℕ) (rule : CanRevoke) : Type 0 where
   pub admin : rule.admin < count
   pub range : IsKnownRange count rule.range
 
+-- the number of users is within the limit, if there is one
 abbrev pub IsMost : Option ℕ → Type 0
 IsMost None = Unit {0}
 IsMost (Some most) = most ≤ MOST_OF_PROFILE
 
+-- the profile's set and number are right
 pub record IsProfile (count : ℕ) (profile : Profile) : Type 0 where
   pub set : IsSet count profile.set
   pub most : IsMost profile.most
@@ -57,7 +61,8 @@ pub record AreApart (q : QuestionValue) : Type 0 where
   pub exclusive : Each (λ pair. is_mixed q.admin_roles pair ≡ false) q.exclusive
   pub assign : Each (λ rule. (is_mixed_rule q.admin_roles rule.admin rule.range ≡ false) × (names_admin q.admin_roles (Some rule.cond) ≡ false)) q.assign
   pub revoke : Each (λ rule. is_mixed_rule q.admin_roles rule.admin rule.range ≡ false) q.revoke
-  pub assignp : Each (λ rule. (is_mixed_rule q.admin_roles rule.admin rule.range ≡ false) × (names_admin q.admin_roles (Some rule.cond) ≡ false)) q.assignp
+  pub assignp : Each (λ rule. (is_mixed_rule q.admin_roles rule.admin rule.range ≡ false)
+      × (names_admin q.admin_roles (Some rule.cond) ≡ false)) q.assignp
   pub revokep : Each (λ rule. is_mixed_rule q.admin_roles rule.admin rule.range ≡ false) q.revokep
 
 -- as a document's question does: an order, known roles, lists within their limits, and administrative roles apart where they are kept separate

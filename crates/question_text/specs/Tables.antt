@@ -1,5 +1,6 @@
 -- The tables of a document: administrative rules and profiles, and its goal.
-use Rattle.std.specs.Prelude.{ℕ, ◌≡◌, Bool, true, false, not, ◌||◌, ◌&&◌, nat_lt, List, [], ◌∷◌, Option, Some, None, codes, Ok, Err, ◌⊎◌}
+use Rattle.std.specs.Prelude.{ℕ, ◌≡◌, Bool, true, false, not, ◌||◌, ◌&&◌, nat_lt, List, [], ◌∷◌, Option, Some, None, codes, Ok, Err}
+use Rattle.std.specs.Prelude.{◌⊎◌}
 use Rattle.toml.specs.Data.{Data, Members, get_member, as_str, as_table}
 use Rattle.role_order.specs.declared.range.Range.{Range}
 use Rattle.role_order.specs.Roles.{has_role}
@@ -45,11 +46,13 @@ the_admin names rule path = do
   name ← required as_str rule path (codes "admin")
   role_named names (key_of path (codes "admin")) name
 
+-- what a rule has under `condition`
 abbrev pub the_condition : List (List ℕ) → Members → List ℕ → Outcome Term
 the_condition names rule path = do
   text ← required as_str rule path (codes "condition")
   a_condition names (key_of path (codes "condition")) text
 
+-- what a rule has under `range`
 abbrev pub the_range : List (List ℕ) → Members → List ℕ → Outcome Range
 the_range names rule path = do
   text ← required as_str rule path (codes "range")
@@ -104,6 +107,7 @@ an_assign_rule separate admins names path d = do
   passed ← assign_tests separate admins rule path
   gives rule
 
+-- the values of a rule's keys
 abbrev pub revoke_parts : List (List ℕ) → Members → List ℕ → Outcome CanRevoke
 revoke_parts names rule path = do
   known ← knows_only (codes "admin" ∷ (codes "range" ∷ [])) rule path
@@ -126,9 +130,11 @@ tables most read table key = do
   few ← at_most most key list
   entries read key list
 
+-- what stands under a key of rules that give roles
 abbrev pub assign_rules : Bool → List ℕ → List (List ℕ) → Members → List ℕ → Outcome (List AssignRule)
 assign_rules separate admins names table key = tables MOST_RULES (an_assign_rule separate admins names) table key
 
+-- what stands under a key of rules that take roles
 abbrev pub revoke_rules : Bool → List ℕ → List (List ℕ) → Members → List ℕ → Outcome (List CanRevoke)
 revoke_rules separate admins names table key = tables MOST_RULES (a_revoke_rule separate admins names) table key
 
@@ -142,6 +148,7 @@ a_profile names path d = do
   most ← optional as_most None profile path (codes "most")
   gives (record { set = set; most = most })
 
+-- what stands under `profile`
 abbrev pub profiles : List (List ℕ) → Members → Outcome (List Profile)
 profiles names table = tables MOST_PROFILES (a_profile names) table (codes "profile")
 
@@ -168,6 +175,7 @@ a_goal names d = do
   narrow ← not_wide_goal conds
   gives conds
 
+-- what a goal comes to that must be there, or may be absent
 abbrev pub may_be_goal : Bool → List (List ℕ) → Option Data → Outcome (List Term)
 may_be_goal true names None = fails (missing (codes "goal"))
 may_be_goal false names None = gives []

@@ -6,6 +6,7 @@ use Rattle.arbac_policy.specs.Truth.{Term, term_of}
 use Rattle.arbac_policy.specs.PlainRules.{AssignRule, plain_rule}
 use Rattle.question_text.specs.declared.question.Question.{Question}
 
+-- a question as plain data
 pub record QuestionValue : Type 0 where
   pub separate : Bool
   pub names : List (List ℕ)

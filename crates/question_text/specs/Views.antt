@@ -17,12 +17,15 @@ abbrev pub entries_of : Option (Bor (Vec Value Global)) → List Data
 entries_of None = []
 entries_of (Some list) = list_of (array_view list.now)
 
+-- what the head is seen as
 abbrev pub head_view : Head → HeadValue
 head_view head = record { version = head.version; separate = head.separate }
 
+-- what roles, edges and pairs are seen as
 abbrev pub roles_view : Roles → RolesValue
 roles_view roles = record { names = roles.order.names; admins = roles.admins; edges = roles.order.edges; exclusive = roles.exclusive.items }
 
+-- what the tables of rules are seen as
 abbrev pub rules_view : Rules → RulesValue
 rules_view rules = record {
   assign = map plain_rule rules.assign.items;

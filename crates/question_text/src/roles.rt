@@ -1,6 +1,7 @@
 //! The lists of roles, edges and pairs of a document.
 
-ghost use Rattle.std.specs.Prelude.{◌≡◌, ◌<◌, ◌≤◌, ◌^◌, ◌↔◌, IsTrue, option_map, ◌&&◌, ◌||◌, not, [], length, position, codes, string_bytes, IfOk};
+ghost use Rattle.std.specs.Prelude.{◌≡◌, ◌<◌, ◌≤◌, ◌^◌, ◌↔◌, IsTrue, option_map, ◌&&◌, ◌||◌, not, [], length, position};
+ghost use Rattle.std.specs.Prelude.{codes, string_bytes, IfOk};
 ghost use Rattle.toml.specs.View.{table_view, array_view, view};
 ghost use Rattle.role_order.specs.Names.{texts};
 ghost use Rattle.role_order.specs.Refusals.{IsOrder};

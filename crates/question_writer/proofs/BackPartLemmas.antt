@@ -1,5 +1,6 @@
 -- Outcomes that a part of the question's table has.
-use Rattle.std.proofs.Common.{◌≡◌, ℕ, ◌+◌, ◌*◌, ◌<◌, ◌≤◌, Bool, true, false, cond, ◌&&◌, ◌||◌, List, [], ◌∷◌, length, get_or, Option, Some, None, Ok, refl, sym, ap, ◌∙◌, subst, inr, arith, eqb}
+use Rattle.std.proofs.Common.{◌≡◌, ℕ, ◌+◌, ◌*◌, ◌<◌, ◌≤◌, Bool, true, false, cond, ◌&&◌, ◌||◌, List, [], ◌∷◌, length}
+use Rattle.std.proofs.Common.{get_or, Option, Some, None, Ok, refl, sym, ap, ◌∙◌, subst, inr, arith, eqb}
 use Rattle.std.specs.Prelude.{codes, map, not, position, nat_lt, fold}
 use Rattle.std.specs.List.{prefix_len}
 use Rattle.std.specs.Str.{bytes_eq}
@@ -37,22 +38,26 @@ is_known known table path e = rw e refl
 pub holds_not : (t : Bool) (fault : Fault) → t ≡ false → fails_if t fault (Ok tt)
 holds_not t fault e = rw e refl
 
-pub is_required : {A : Type 0} (kind : Data → Option A) (table : Members) (path key : List ℕ) (d : Data) (value : A) → get_member key table ≡ Some d → kind d ≡ Some value → required kind table path key (Ok value)
+pub is_required : {A : Type 0} (kind : Data → Option A) (table : Members) (path key : List ℕ) (d : Data) (value : A)
+    → get_member key table ≡ Some d → kind d ≡ Some value → required kind table path key (Ok value)
 is_required kind table path key d value e f = rw (e, f) refl
 
 pub as_list_data : {A : Type 0} (view : A → Data) (xs : List A) → as_list (list_data view xs) ≡ Some (map view xs)
 as_list_data view xs = ap Some (list_items (map view xs))
 
 -- a list that may be absent
-pub is_optional : {A : Type 0} (view : A → Data) (xs : List A) (table : Members) (path key : List ℕ) → get_member key table ≡ list_or_none view xs → optional as_list [] table path key (Ok (map view xs))
+pub is_optional : {A : Type 0} (view : A → Data) (xs : List A) (table : Members) (path key : List ℕ) → get_member key table ≡ list_or_none view xs
+    → optional as_list [] table path key (Ok (map view xs))
 is_optional view [] table path key e = rw e refl
 is_optional view (x ∷ xs) table path key e = rw e (ap Ok (sym (list_items (map view (x ∷ xs)))))
 
-pub is_listed : {A : Type 0} (view : A → Data) (xs : List A) (table : Members) (path key : List ℕ) → get_member key table ≡ Some (list_data view xs) → optional as_list [] table path key (Ok (map view xs))
+pub is_listed : {A : Type 0} (view : A → Data) (xs : List A) (table : Members) (path key : List ℕ)
+    → get_member key table ≡ Some (list_data view xs) → optional as_list [] table path key (Ok (map view xs))
 is_listed view xs table path key e = rw e (ap Ok (sym (list_items (map view xs))))
 
 -- the rows of a list of tables
-pub are_rows : (rows : List (List Entry)) (table : Members) (key : List ℕ) → get_member key table ≡ section_data rows → optional as_list [] table [] key (Ok (map row_data rows))
+pub are_rows : (rows : List (List Entry)) (table : Members) (key : List ℕ) → get_member key table ≡ section_data rows
+    → optional as_list [] table [] key (Ok (map row_data rows))
 are_rows [] table key e = rw e refl
 are_rows (row ∷ rows) table key e = rw e (ap Ok (sym (list_after (item (row_data row) no_items) (map row_data rows))))
 
@@ -67,7 +72,8 @@ pub are_entries : {A B : Type 0} (read : List ℕ → Data → Outcome B) (view 
     → Each (λ x. (at : List ℕ) → read at (view x) (Ok (value x))) xs → entries read path (map view xs) (Ok (map value xs))
 are_entries {A} {B} read view value path xs h = from 0 xs h
   where
-    from : (place : ℕ) (ys : List A) → Each (λ x. (at : List ℕ) → read at (view x) (Ok (value x))) ys → in_turn (λ at d. read (entry_of path at) d) place (map view ys) (Ok (map value ys))
+    from : (place : ℕ) (ys : List A) → Each (λ x. (at : List ℕ) → read at (view x) (Ok (value x))) ys
+        → in_turn (λ at d. read (entry_of path at) d) place (map view ys) (Ok (map value ys))
     from place [] k = refl
     from place (y ∷ ys) k = inr (value y, k.0 (entry_of path place), inr (map value ys, from (place + 1) ys k.1, refl))
 
@@ -90,7 +96,8 @@ module _ (names : List (List ℕ)) (ok : AreNames names) where
   pub is_a_role : (role : ℕ) → role < length names → (at : List ℕ) → a_role names at (role_data names role) (Ok role)
   is_a_role role h at = inr (get_or names role [], refl, is_role_named at role h)
 
-  are_both : (pair : ℕ × ℕ) → IsKnownPair (length names) pair → (at : List ℕ) → both_roles names at (get_or names pair.0 [], get_or names pair.1 []) (Ok pair)
+  are_both : (pair : ℕ × ℕ) → IsKnownPair (length names) pair → (at : List ℕ)
+      → both_roles names at (get_or names pair.0 [], get_or names pair.1 []) (Ok pair)
   are_both pair h at = inr (pair.0, is_role_named at pair.0 h.0, inr (pair.1, is_role_named at pair.1 h.1, refl))
 
   pub is_an_edge : (pair : ℕ × ℕ) → IsKnownPair (length names) pair → (at : List ℕ) → an_edge names at (pair_data names pair) (Ok pair)
@@ -118,7 +125,8 @@ has_role-fold acc [] q = sym (or_false (has_role acc q))
     or_false : (t : Bool) → (t || false) ≡ t
     or_false true = refl
     or_false false = refl
-has_role-fold acc (x ∷ xs) q = has_role-fold (with_role acc x) xs q ∙ ap (λ t. t || has_role xs q) (has_role-with_role acc x q) ∙ regrouped (eqb x q) (has_role acc q) (has_role xs q)
+has_role-fold acc (x ∷ xs) q =
+    has_role-fold (with_role acc x) xs q ∙ ap (λ t. t || has_role xs q) (has_role-with_role acc x q) ∙ regrouped (eqb x q) (has_role acc q) (has_role xs q)
   where
     regrouped : (t u v : Bool) → ((t || u) || v) ≡ (u || (t || v))
     regrouped true true v = refl
@@ -133,23 +141,28 @@ rises-fold acc (x ∷ xs) h = rises-fold (with_role acc x) xs (rises-with_role a
 pub set_itself : (set : List ℕ) → Rises set → set_of set ≡ set
 set_itself set h = same_set (set_of set) set (rises-fold [] set tt) h (λ q. has_role-fold [] set q)
 
-pub is_role_set : (names : List (List ℕ)) → AreNames names → (set : List ℕ) → IsSet (length names) set → (path : List ℕ) → role_set names path (map (role_data names) set) (Ok set)
+pub is_role_set : (names : List (List ℕ)) → AreNames names → (set : List ℕ) → IsSet (length names) set → (path : List ℕ)
+    → role_set names path (map (role_data names) set) (Ok set)
 is_role_set names ok set h path =
     let roles = are_read (a_role names) (role_data names) path set
-    (each_weaker (λ role. role < length names) (λ role. (at : List ℕ) → a_role names at (role_data names role) (Ok role)) (λ role below. is_a_role names ok role below) set (each_below (length names) set h.below)) in
+    (each_weaker (λ role. role < length names) (λ role. (at : List ℕ) → a_role names at (role_data names role) (Ok role))
+    (λ role below. is_a_role names ok role below) set (each_below (length names) set h.below)) in
     inr (set, roles, ap Ok (sym (set_itself set h.rises)))
 
-none_mixed : (admins : List ℕ) (pairs : List (ℕ × ℕ)) → Each (λ pair. is_mixed admins pair ≡ false) pairs → position (is_mixed admins) pairs ≡ None
+none_mixed : (admins : List ℕ) (pairs : List (ℕ × ℕ)) → Each (λ pair. is_mixed admins pair ≡ false) pairs
+    → position (is_mixed admins) pairs ≡ None
 none_mixed admins pairs h =
     let whole = all_pass pairs h in
     let test : nat_lt (prefix_len (λ pair. not (is_mixed admins pair)) pairs) (length pairs) ≡ false = grind (arith, nat_tests) in
     rw test refl
   where
-    all_pass : (pairs : List (ℕ × ℕ)) → Each (λ pair. is_mixed admins pair ≡ false) pairs → prefix_len (λ pair. not (is_mixed admins pair)) pairs ≡ length pairs
+    all_pass : (pairs : List (ℕ × ℕ)) → Each (λ pair. is_mixed admins pair ≡ false) pairs
+        → prefix_len (λ pair. not (is_mixed admins pair)) pairs ≡ length pairs
     all_pass [] h = refl
     all_pass (pair ∷ pairs) h = let rest = all_pass pairs h.1 in rw h.0 (omega arith)
 
-pub are_not_mixed : (separate : Bool) (admins path : List ℕ) (pairs : List (ℕ × ℕ)) → (separate ≡ true → Each (λ pair. is_mixed admins pair ≡ false) pairs) → not_mixed separate admins path pairs (Ok tt)
+pub are_not_mixed : (separate : Bool) (admins path : List ℕ) (pairs : List (ℕ × ℕ))
+    → (separate ≡ true → Each (λ pair. is_mixed admins pair ≡ false) pairs) → not_mixed separate admins path pairs (Ok tt)
 are_not_mixed false admins path pairs h = refl
 are_not_mixed true admins path pairs h = rw (none_mixed admins pairs (h refl)) refl
 

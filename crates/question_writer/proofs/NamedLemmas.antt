@@ -1,5 +1,6 @@
 -- Names of roles, ranges and conditions are plain texts, and a role's name stands at its place alone.
-use Rattle.std.proofs.Common.{◌≡◌, ℕ, ◌<◌, Bool, true, false, cond, ◌&&◌, List, [], ◌∷◌, ◌++◌, length, get_or, Option, Some, None, refl, sym, ap, subst, arith, eqb}
+use Rattle.std.proofs.Common.{◌≡◌, ℕ, ◌<◌, Bool, true, false, cond, ◌&&◌, List, [], ◌∷◌, ◌++◌, length, get_or, Option, Some, None}
+use Rattle.std.proofs.Common.{refl, sym, ap, subst, arith, eqb}
 use Rattle.std.specs.Prelude.{codes, not}
 use Rattle.std.specs.Option.{unwrap_or}
 use Rattle.std.specs.Str.{bytes_eq}
@@ -37,7 +38,8 @@ pub record IsNamed (names : List (List ℕ)) (role : ℕ) : Type 0 where
   pub name : is_name (get_or names role []) ≡ true
   pub place : place_of names (get_or names role []) ≡ Some role
 
-the_role : (names : List (List ℕ)) (role : ℕ) (found : Option ℕ) → role < length names → unwrap_or found (length names) ≡ role → found ≡ Some role
+the_role : (names : List (List ℕ)) (role : ℕ) (found : Option ℕ) → role < length names → unwrap_or found (length names) ≡ role
+    → found ≡ Some role
 the_role names role None h e = absurd (omega arith)
 the_role names role (Some r) h e = ap Some e
 
@@ -53,7 +55,8 @@ unfolding word_of
 the_place names role h p =
     let text : List ℕ = get_or names role [] in
     the_role names role (place_of names text) h
-    (the_word (bytes_eq text (codes "any")) (bytes_eq text (codes "not")) (bytes_eq text (codes "and")) (bytes_eq text (codes "or")) (role_or_count names text) role p.word)
+    (the_word (bytes_eq text (codes "any")) (bytes_eq text (codes "not")) (bytes_eq text (codes "and")) (bytes_eq text (codes "or"))
+    (role_or_count names text) role p.word)
 
 role_name_is : (text : List ℕ) → is_role_name text ≡ true → is_name text ≡ true
 unfolding is_role_name
@@ -67,7 +70,8 @@ is_named names ok role h =
     let p = proper names ok role h in
     record {
       plain = names_plain (get_or names role []) p.bytes;
-      name = role_name_is (get_or names role []) (each_at (λ name. is_role_name name ≡ true) names role (get_or names role []) ok.named (get_at names role [] h));
+      name = role_name_is (get_or names role []) (each_at (λ name. is_role_name name ≡ true) names role (get_or names role []) ok.named
+          (get_at names role [] h));
       place = the_place names role h p;
     }
 
@@ -77,11 +81,14 @@ module _ (names : List (List ℕ)) (ok : AreNames names) where
   written_plain an_any h = refl
   written_plain (a_name role) h = (is_named names ok role h).plain
   written_plain (a_not role) h = plain-append (codes "not ") (get_or names role []) refl (is_named names ok role h).plain
-  written_plain (enclosed p) h = plain-append (codes "(") (written names p ++ codes ")") refl (plain-append (written names p) (codes ")") (written_plain p h) refl)
+  written_plain (enclosed p) h =
+      plain-append (codes "(") (written names p ++ codes ")") refl (plain-append (written names p) (codes ")") (written_plain p h) refl)
   written_plain (an_and p q) h =
-      plain-append (written names p) (codes " and " ++ written names q) (written_plain p h.0) (plain-append (codes " and ") (written names q) refl (written_plain q h.1))
+      plain-append (written names p) (codes " and " ++ written names q) (written_plain p h.0)
+      (plain-append (codes " and ") (written names q) refl (written_plain q h.1))
   written_plain (an_or p q) h =
-      plain-append (written names p) (codes " or " ++ written names q) (written_plain p h.0) (plain-append (codes " or ") (written names q) refl (written_plain q h.1))
+      plain-append (written names p) (codes " or " ++ written names q) (written_plain p h.0)
+      (plain-append (codes " or ") (written names q) refl (written_plain q h.1))
 
   pub text_plain : (t : Term) → IsKnown (length names) t → IsPlain (text_of names t)
   text_plain t h =

@@ -8,7 +8,8 @@ ghost use Rattle.arbac_policy.specs.Rules.{IsKnownAssign, IsKnownRevoke, IsKnown
 ghost use Rattle.arbac_policy.specs.PlainRules.{plain_rule};
 ghost use Rattle.question_text.specs.Documents.{document};
 ghost use Rattle.question_text.specs.Rules.{IsSet, IsProfile, KeepsRules};
-ghost use Rattle.question_writer.specs.Texts.{line, quoted, listed, role_text, pair_text, condition_text, range_text, truth_text, most_text, version_text, exclusive_text, goal_text, assign_text, revoke_text, profile_text, keys_text, tables_text, question_text};
+ghost use Rattle.question_writer.specs.Texts.{line, quoted, listed, role_text, pair_text, condition_text, range_text, truth_text, most_text, version_text};
+ghost use Rattle.question_writer.specs.Texts.{exclusive_text, goal_text, assign_text, revoke_text, profile_text, keys_text, tables_text, question_text};
 ghost use Rattle.question_text.specs.Values.{plain_of};
 
 use crate::pieces::{

@@ -25,7 +25,8 @@ is_common (x ∷ xs) ys c = by_case (or_cases (eqb x c.0) (has_role xs c.0) c.1)
     by_case (inr i) rest = or_right (has_role ys x) (have_common xs ys) (rest i)
 
 -- a role of each hit and none of the lacks: the requirement is met
-pub met_by : (need : Need) (set : List ℕ) → list_all (λ hit. have_common hit set) need.hits ≡ true → have_common need.lacks set ≡ false → MeetsNeed need set
+pub met_by : (need : Need) (set : List ℕ) → list_all (λ hit. have_common hit set) need.hits ≡ true → have_common need.lacks set ≡ false
+    → MeetsNeed need set
 met_by need set hits lacks = record {
   hits = all_each (λ hit. HaveCommon hit set) (λ hit. have_common hit set) (λ hit e. common_is hit set e) need.hits hits;
   lacks = λ role i j. let yes = is_common need.lacks set (role, i, j) in cc;

@@ -1,6 +1,7 @@
 //! The normal form of one user requirement.
 
-ghost use Rattle.std.specs.Prelude.{◌≡◌, ◌<◌, ◌≤◌, true, false, if◌then◌else◌, ℕ, List, length, slice_get, Option, Some, None, IfOk, IfSome, OnOk, option_map};
+ghost use Rattle.std.specs.Prelude.{◌≡◌, ◌<◌, ◌≤◌, true, false, if◌then◌else◌, ℕ, List, length, slice_get, Option, Some, None, IfOk};
+ghost use Rattle.std.specs.Prelude.{IfSome, OnOk, option_map};
 ghost use Rattle.std.specs.List.{list_any};
 ghost use Rattle.role_order.specs.Orders.{set_before};
 ghost use Rattle.arbac_laws.specs.PreImages.{is_empty};

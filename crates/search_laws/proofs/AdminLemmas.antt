@@ -1,5 +1,6 @@
 -- A user who has a hit within the administrator's already needs no other.
-use Rattle.std.proofs.Common.{ℕ, ◌≡◌, ◌<◌, ◌≤◌, Bool, true, false, List, [], ◌∷◌, ◌++◌, Some, length, refl, arith, zero, suc, sym, subst, inl}
+use Rattle.std.proofs.Common.{ℕ, ◌≡◌, ◌<◌, ◌≤◌, Bool, true, false, List, [], ◌∷◌, ◌++◌, Some, length, refl, arith, zero, suc, sym}
+use Rattle.std.proofs.Common.{subst, inl}
 use Rattle.std.specs.Prelude.{slice_get}
 use Rattle.list_words.proofs.CountLemmas.{count, counted}
 use Rattle.list_words.proofs.GetLemmas.{get_there, same_some}
@@ -18,13 +19,15 @@ pub free_covers : (need : Need) (hit : List ℕ) → HasHitWithin hit need → C
 free_covers need hit h = record { hits = (h, (covers_itself need).hits); lacks = λ role k. k }
 
 -- a hit added where one lies within it already: each user still covers the one at its place
-pub change_free : (xs : List Need) (k : ℕ) (x : Need) (hit : List ℕ) → slice_get xs k ≡ Some x → HasHitWithin hit x → Along (change_at k (add_hit hit) xs) xs
+pub change_free : (xs : List Need) (k : ℕ) (x : Need) (hit : List ℕ) → slice_get xs k ≡ Some x → HasHitWithin hit x
+    → Along (change_at k (add_hit hit) xs) xs
 change_free [] k x hit at h = tt
 change_free (y ∷ ys) zero x hit at h = let same : x ≡ y = cc in (free_covers y hit (subst (HasHitWithin hit) same h), along_itself ys)
 change_free (y ∷ ys) (suc k) x hit at h = (covers_itself y, change_free ys k x hit at h)
 
 -- where the administrator is free, no more is wanted
-pub free_admin : (needs : List Need) (target : ℕ) (hit : List ℕ) (pick : Pick) → IsFree hit pick target needs → Covers (with_admin pick target hit needs) needs
+pub free_admin : (needs : List Need) (target : ℕ) (hit : List ℕ) (pick : Pick) → IsFree hit pick target needs
+    → Covers (with_admin pick target hit needs) needs
 free_admin needs target hit itself free = covers_along (change_at target (add_hit hit) needs) needs (change_free needs target free.0 hit free.1 free.2)
 free_admin needs target hit (other place) free = covers_along (change_at place (add_hit hit) needs) needs (change_free needs place free.0 hit free.1 free.2)
 free_admin needs target hit fresh free = absurd free
@@ -74,7 +77,8 @@ count_change hit (y ∷ ys) zero x at e =
 count_change hit (y ∷ ys) (suc k) x at e = let r = count_change hit ys k x at e in omega (arith, r)
 
 -- one more such user at the end
-pub count_more : (hit : List ℕ) (xs : List Need) (x : Need) → is_free hit x ≡ true → count (is_free hit) (xs ++ x ∷ []) ≡ suc (count (is_free hit) xs)
+pub count_more : (hit : List ℕ) (xs : List Need) (x : Need) → is_free hit x ≡ true
+    → count (is_free hit) (xs ++ x ∷ []) ≡ suc (count (is_free hit) xs)
 count_more hit [] x e = rw e (omega arith)
 count_more hit (y ∷ ys) x e = let r = count_more hit ys x e in omega (arith, r)
 

@@ -1,5 +1,6 @@
 -- Equal users change places, and requirements cover each other.
-use Rattle.std.proofs.Common.{ℕ, ◌≡◌, ◌<◌, ◌≤◌, List, [], ◌∷◌, ◌++◌, Some, length, refl, arith, zero, suc, sym, ◌∙◌, ap, subst, inl, inr}
+use Rattle.std.proofs.Common.{ℕ, ◌≡◌, ◌<◌, ◌≤◌, List, [], ◌∷◌, ◌++◌, Some, length, refl, arith, zero, suc, sym, ◌∙◌, ap}
+use Rattle.std.proofs.Common.{subst, inl, inr}
 use Rattle.std.specs.Prelude.{◌⊎◌, slice_get, slice_set}
 use Rattle.std.specs.Option.{option_map}
 use Rattle.std.proofs.lemmas.Bool.{eq-eqb, ne_eqb}
@@ -47,7 +48,8 @@ changed_twice i j k = by_case (which_place i j k)
   where
     by_case : WhichPlace i j k → changed_place i j (changed_place i j k) ≡ k
     by_case (inl e) = subst (λ v. changed_place i j (changed_place i j v) ≡ v) (sym e) (ap (changed_place i j) (changed_left i j) ∙ changed_right i j)
-    by_case (inr (inl e)) = subst (λ v. changed_place i j (changed_place i j v) ≡ v) (sym e) (ap (changed_place i j) (changed_right i j) ∙ changed_left i j)
+    by_case (inr (inl e)) =
+        subst (λ v. changed_place i j (changed_place i j v) ≡ v) (sym e) (ap (changed_place i j) (changed_right i j) ∙ changed_left i j)
     by_case (inr (inr n)) = ap (changed_place i j) (changed_other i j k n.0 n.1) ∙ changed_other i j k n.0 n.1
 
 -- different places go to different places
@@ -76,7 +78,8 @@ alike_covers i j xs ys alike = record {
 }
 
 -- the list itself, where two users are equal
-pub own_alike : (needs : List Need) (i j : ℕ) (need : Need) → slice_get needs i ≡ Some need → slice_get needs j ≡ Some need → AreAlike i j needs needs
+pub own_alike : (needs : List Need) (i j : ℕ) (need : Need) → slice_get needs i ≡ Some need → slice_get needs j ≡ Some need
+    → AreAlike i j needs needs
 own_alike needs i j need at there k = by_case (which_place i j k)
   where
     by_case : WhichPlace i j k → slice_get needs k ≡ slice_get needs (changed_place i j k)
@@ -108,7 +111,8 @@ pub change_alike : (i j : ℕ) (xs ys : List Need) (f : Need → Need) (p : ℕ)
 change_alike i j xs ys f p alike k = by_case (cases_eq p k)
   where
     by_case : (p ≡ k) ⊎ (p ≡ k → ⊥) → slice_get (change_at p f xs) k ≡ slice_get (change_at (changed_place i j p) f ys) (changed_place i j k)
-    by_case (inl e) = ap (slice_get (change_at p f xs)) (sym e) ∙ get_change xs p f ∙ ap (option_map f) (alike p) ∙ sym (get_change ys (changed_place i j p) f)
+    by_case (inl e) = ap (slice_get (change_at p f xs)) (sym e) ∙ get_change xs p f ∙ ap (option_map f) (alike p)
+        ∙ sym (get_change ys (changed_place i j p) f)
         ∙ ap (λ v. slice_get (change_at (changed_place i j p) f ys) (changed_place i j v)) e
     by_case (inr n) =
         get_change_other xs p k f n ∙ alike k ∙ sym (get_change_other ys (changed_place i j p) (changed_place i j k) f (λ e. n (changed_apart i j p k e)))
@@ -126,7 +130,8 @@ more_alike i j xs ys x li lj long alike k = by_order (compare k (length xs))
         get_append xs x k l ∙ alike k
         ∙ sym (get_append ys x (changed_place i j k) (subst (λ n. changed_place i j k < n) long (changed_below i j k (length xs) li lj l)))
     by_order (inr (inl e)) =
-        ap (slice_get (xs ++ x ∷ [])) e ∙ get_last xs x ∙ sym (get_last ys x) ∙ ap (slice_get (ys ++ x ∷ [])) (sym (still (omega (arith, e)) ∙ e ∙ long))
+        ap (slice_get (xs ++ x ∷ [])) e ∙ get_last xs x ∙ sym (get_last ys x)
+        ∙ ap (slice_get (ys ++ x ∷ [])) (sym (still (omega (arith, e)) ∙ e ∙ long))
     by_order (inr (inr l)) = slice_get_past (xs ++ x ∷ []) k (let n = length_more xs x in omega (arith, n, l))
         ∙ sym (ap (slice_get (ys ++ x ∷ [])) (still (omega (arith, l))) ∙ slice_get_past (ys ++ x ∷ []) k
         (let n = length_more ys x in omega (arith, n, l, long)))
@@ -137,7 +142,8 @@ pub targets_alike : (needs : List Need) (i j : ℕ) (need before : Need) (hit : 
     → Covers (with_admin pick i hit (slice_set needs i before)) (with_admin (changed_pick i j pick) j hit (slice_set needs j before))
 targets_alike needs i j need before hit itself at there =
     alike_covers i j (change_at i (add_hit hit) (slice_set needs i before)) (change_at j (add_hit hit) (slice_set needs j before))
-    (subst (λ v. AreAlike i j (change_at i (add_hit hit) (slice_set needs i before)) (change_at v (add_hit hit) (slice_set needs j before))) (changed_left i j)
+    (subst (λ v. AreAlike i j (change_at i (add_hit hit) (slice_set needs i before)) (change_at v (add_hit hit) (slice_set needs j before)))
+    (changed_left i j)
     (change_alike i j (slice_set needs i before) (slice_set needs j before) (add_hit hit) i (set_alike needs i j need before at there)))
 targets_alike needs i j need before hit (other place) at there =
     alike_covers i j (change_at place (add_hit hit) (slice_set needs i before)) (change_at (changed_place i j place) (add_hit hit) (slice_set needs j before))

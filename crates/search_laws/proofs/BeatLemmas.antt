@@ -37,7 +37,8 @@ never_beats candidates i b = by_case b.apart
     by_case (inr l) = omega (arith, l)
 
 -- beating goes through, on normal forms
-pub beats_through : (candidates : List Entry) → AreNormal candidates → (i j k : ℕ) → Beats candidates i j → Beats candidates j k → Beats candidates i k
+pub beats_through : (candidates : List Entry) → AreNormal candidates → (i j k : ℕ) → Beats candidates i j → Beats candidates j k
+    → Beats candidates i k
 beats_through candidates normal i j k first second = record {
   by = first.by;
   by_is = first.by_is;
@@ -112,7 +113,8 @@ abbrev pub HasLeast : (ℕ → ℕ → Type 0) → ℕ → ℕ → Type 0
 HasLeast B n j = ((i : ℕ) → i < n → B i j → ⊥) ⊎ ((i : ℕ) × B i j × ((k : ℕ) → k < n → B k i → ⊥))
 
 -- by the places below one number after another
-pub has_least : (B : ℕ → ℕ → Type 0) → ((i j : ℕ) → Decided (B i j)) → ((i : ℕ) → B i i → ⊥) → ((i j k : ℕ) → B i j → B j k → B i k) → (n j : ℕ)
+pub has_least : (B : ℕ → ℕ → Type 0) → ((i j : ℕ) → Decided (B i j)) → ((i : ℕ) → B i i → ⊥) → ((i j k : ℕ) → B i j → B j k → B i k)
+    → (n j : ℕ)
     → HasLeast B n j
 has_least B d never through zero j = inl (λ i l b. omega arith)
 has_least B d never through (suc n) j = by_last (d n j) (has_least B d never through n j) (has_least B d never through n n)
@@ -170,7 +172,8 @@ entry_order = record {
 }
 
 -- unbeaten candidates have one list
-pub one_unbeaten : (known : List (List Need)) (candidates first second : List Entry) → AreUnbeaten known candidates first → AreUnbeaten known candidates second
+pub one_unbeaten : (known : List (List Need)) (candidates first second : List Entry) → AreUnbeaten known candidates first
+    → AreUnbeaten known candidates second
     → first ≡ second
 one_unbeaten known candidates first second u v =
     rising_same entry_before entry_order first second u.rising v.rising (are_in first second u v) (are_in second first v u)

@@ -1,5 +1,6 @@
 -- What the candidates of a round are, and that they are in normal form.
-use Rattle.std.proofs.Common.{ℕ, ◌≡◌, ◌<◌, ◌≤◌, ◌+◌, ◌-◌, List, [], ◌∷◌, None, Some, Option, take, drop, refl, arith, zero, suc, sym, ◌∙◌, ap, subst}
+use Rattle.std.proofs.Common.{ℕ, ◌≡◌, ◌<◌, ◌≤◌, ◌+◌, ◌-◌, List, [], ◌∷◌, None, Some, Option, take, drop, refl, arith, zero}
+use Rattle.std.proofs.Common.{suc, sym, ◌∙◌, ap, subst}
 use Rattle.std.specs.Prelude.{slice_get}
 use Rattle.list_words.specs.Lists.{Each, IsOneOf}
 use Rattle.list_words.proofs.GetLemmas.{get_take, get_taken}
@@ -22,12 +23,14 @@ use Rattle.search_laws.proofs.BeatLemmas.{AreNormal}
 -- each item of the lists that functions make of items, one after another
 
 -- of each item all that is made of it
-pub each_flat : {A B : Type 0} (P : B → Type 0) (f : A → List B) (xs : List A) → ((i : ℕ) (x : A) → slice_get xs i ≡ Some x → Each P (f x)) → Each P (flat f xs)
+pub each_flat : {A B : Type 0} (P : B → Type 0) (f : A → List B) (xs : List A) → ((i : ℕ) (x : A) → slice_get xs i ≡ Some x → Each P (f x))
+    → Each P (flat f xs)
 each_flat P f [] h = tt
 each_flat P f (x ∷ xs) h = each_append P (f x) (flat f xs) (h 0 x refl) (each_flat P f xs (λ i y at. h (suc i) y at))
 
 -- all that is made of each item
-pub flat_each : {A B : Type 0} (P : B → Type 0) (f : A → List B) (xs : List A) → Each P (flat f xs) → (i : ℕ) (x : A) → slice_get xs i ≡ Some x → Each P (f x)
+pub flat_each : {A B : Type 0} (P : B → Type 0) (f : A → List B) (xs : List A) → Each P (flat f xs) → (i : ℕ) (x : A) → slice_get xs i ≡ Some x
+    → Each P (f x)
 flat_each P f [] all i x at = cc
 flat_each P f (y ∷ ys) all zero x at = let same : y ≡ x = cc in subst (λ v. Each P (f v)) same (each_left P (f y) (flat f ys) all)
 flat_each P f (y ∷ ys) all (suc i) x at = flat_each P f ys (each_right P (f y) (flat f ys) all) i x at
@@ -79,7 +82,8 @@ pub each_goal : (P : Entry → Type 0) (rules : Rules) (goal : List Term)
 each_goal P rules goal h =
     each_places P (λ number needs. as_candidate (of_goal number) (normal_form needs)) 0 (goal_requirements rules.order goal)
     (λ i needs at. let here : i ≡ 0 + i = omega arith in
-    subst (λ k. Each P (as_candidate (of_goal k) (normal_form needs))) here (each_candidate P (of_goal i) (normal_form needs) (λ form e. h i needs form at e)))
+    subst (λ k. Each P (as_candidate (of_goal k) (normal_form needs))) here
+    (each_candidate P (of_goal i) (normal_form needs) (λ form e. h i needs form at e)))
 
 -- each possible goal requirement has its candidate
 pub goal_each : (P : Entry → Type 0) (rules : Rules) (goal : List Term) → Each P (goal_candidates rules goal)

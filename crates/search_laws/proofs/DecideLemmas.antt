@@ -1,5 +1,6 @@
 -- Cover is decided, and so is whether a list covers a requirement and whether two requirements are one.
-use Rattle.std.proofs.Common.{ℕ, ◌≡◌, ◌<◌, Bool, true, false, List, [], ◌∷◌, None, Some, Option, length, refl, arith, zero, suc, sym, ◌∙◌, ap, subst, inl, inr}
+use Rattle.std.proofs.Common.{ℕ, ◌≡◌, ◌<◌, Bool, true, false, List, [], ◌∷◌, None, Some, Option, length, refl, arith, zero, suc, sym}
+use Rattle.std.proofs.Common.{◌∙◌, ap, subst, inl, inr}
 use Rattle.std.specs.Prelude.{◌⊎◌, slice_get}
 use Rattle.list_words.specs.Lists.{Some_of}
 use Rattle.list_words.specs.Embeds.{Embeds}
@@ -32,11 +33,13 @@ some_decided P d (x ∷ xs) = by_cases (d x) (some_decided P d xs)
     by_cases (inr n) (inr m) = inr (neither n m)
 
 -- a place below the number is found, or there is none
-pub place_decided : (P : ℕ → Type 0) → ((k : ℕ) → Decided (P k)) → (n : ℕ) → ((k : ℕ) × (k < n) × P k) ⊎ ((k : ℕ) → k < n → P k → ⊥)
+pub place_decided : (P : ℕ → Type 0) → ((k : ℕ) → Decided (P k)) → (n : ℕ) → ((k : ℕ) × (k < n) × P k)
+    ⊎ ((k : ℕ) → k < n → P k → ⊥)
 place_decided P d zero = inr (λ k l p. omega arith)
 place_decided P d (suc n) = by_cases (place_decided P d n) (d n)
   where
-    by_cases : ((k : ℕ) × (k < n) × P k) ⊎ ((k : ℕ) → k < n → P k → ⊥) → Decided (P n) → ((k : ℕ) × (k < suc n) × P k) ⊎ ((k : ℕ) → k < suc n → P k → ⊥)
+    by_cases : ((k : ℕ) × (k < n) × P k) ⊎ ((k : ℕ) → k < n → P k → ⊥) → Decided (P n) → ((k : ℕ) × (k < suc n) × P k)
+        ⊎ ((k : ℕ) → k < suc n → P k → ⊥)
     by_cases (inl one) here = let l = one.1 in inl (one.0, omega (arith, l), one.2)
     by_cases (inr none) (inl p) = inl (n, omega arith, p)
     by_cases (inr none) (inr not') = inr (λ k l p. by_order (compare k n) l p)
@@ -92,11 +95,13 @@ fits_decided {A} {B} R d x xs ys rest j = by_item (slice_get ys j) refl
     by_item (Some y) at = by_parts y at (d x y) (rest (cut j ys))
 
 -- an injective map is found, or there is none
-pub embeds_decided : {A B : Type 0} (R : A → B → Type 0) → ((x : A) (y : B) → Decided (R x y)) → (xs : List A) (ys : List B) → Decided (Embeds R xs ys)
+pub embeds_decided : {A B : Type 0} (R : A → B → Type 0) → ((x : A) (y : B) → Decided (R x y)) → (xs : List A) (ys : List B)
+    → Decided (Embeds R xs ys)
 embeds_decided R d [] ys = inl (embeds_none R ys)
 embeds_decided {A} {B} R d (x ∷ xs) ys = by_place (place_decided (Fits R x xs ys) (fits_decided R d x xs ys (embeds_decided R d xs)) (length ys))
   where
-    by_place : ((j : ℕ) × (j < length ys) × Fits R x xs ys j) ⊎ ((j : ℕ) → j < length ys → Fits R x xs ys j → ⊥) → Decided (Embeds R (x ∷ xs) ys)
+    by_place : ((j : ℕ) × (j < length ys) × Fits R x xs ys j) ⊎ ((j : ℕ) → j < length ys → Fits R x xs ys j → ⊥)
+        → Decided (Embeds R (x ∷ xs) ys)
     by_place (inl one) = inl (embeds_put R x xs ys one.0 one.2.0 one.2.1 one.2.2 one.2.3)
     by_place (inr none) = inr (λ f. let one = f.each 0 x refl in
         none (f.to 0) (get_below ys (f.to 0) one.0 one.1) (one.0, one.1, one.2, embeds_rest R x xs ys f))

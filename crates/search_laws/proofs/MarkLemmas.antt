@@ -18,7 +18,8 @@ pub lack_covered : (role : ℕ) (a b : Need) → CoversNeed a b → IsIn a.lacks
 lack_covered role a b c h = c.lacks role h
 
 -- what holds of the covered user where it holds of the covering one, holds of some user there as it does here
-pub some_covered : (P : Need → Type 0) → ((a b : Need) → CoversNeed a b → P a → P b) → (a b : List Need) → Covers a b → Some_of P a → Some_of P b
+pub some_covered : (P : Need → Type 0) → ((a b : Need) → CoversNeed a b → P a → P b) → (a b : List Need) → Covers a b → Some_of P a
+    → Some_of P b
 some_covered P over a b f some =
     let one = some_item P a some in let there = f.each one.1.0 one.0 one.1.1 in
     some_one_at P b there.0 (f.to one.1.0, there.1) (over one.0 there.0 there.2 one.2)

@@ -131,7 +131,8 @@ along_admin fresh target xs ys hit less within h =
     nobody = record { hits = []; lacks = [] }
 
 -- of one administrator, who wants less of both has the covering pre-image
-pub acts_covered : (needs : List Need) (target : ℕ) (pick : Pick) (first second : Need) (hit less : List ℕ) → CoversNeed first second → IsWithin less hit
+pub acts_covered : (needs : List Need) (target : ℕ) (pick : Pick) (first second : Need) (hit less : List ℕ) → CoversNeed first second
+    → IsWithin less hit
     → Covers (with_admin pick target hit (slice_set needs target first)) (with_admin pick target less (slice_set needs target second))
 acts_covered needs target pick first second hit less c within =
     covers_along (with_admin pick target hit (slice_set needs target first)) (with_admin pick target less (slice_set needs target second))
@@ -180,7 +181,8 @@ before_is_wanted rules conjunct need before role e =
 -- an assignment that takes all hits that the other takes, and whose conjunct is wanted anyway, wants less
 pub assign_covers : (rules : Rules) (need a b first second : Need) (given role : ℕ) → before_assign rules a given need ≡ Some first
     → before_assign rules b role need ≡ Some second
-    → Each (λ hit. IsIn hit role → IsIn hit given) need.hits → Each (λ hit. Some_of (λ other. IsWithin (less_roles other second.lacks) hit) second.hits) a.hits
+    → Each (λ hit. IsIn hit role → IsIn hit given) need.hits
+    → Each (λ hit. Some_of (λ other. IsWithin (less_roles other second.lacks) hit) second.hits) a.hits
     → IsWithin first.lacks second.lacks → CoversNeed first second
 assign_covers rules need a b first second given role e f takes wanted within = record {
   hits = subst (λ (v : Need). Each HasLess v.hits) (before_is_wanted rules a need first given e)
@@ -195,14 +197,16 @@ assign_covers rules need a b first second given role e f takes wanted within = r
     stays hit takes out = rw (not_false (has_role hit role) (λ h. not_true (has_role hit given) out (takes h))) refl
 
     in_second : (hit : List ℕ) → Some_of (λ (other : List ℕ). other ≡ hit) (filter (λ hit. not (has_role hit role)) need.hits) → HasLess hit
-    in_second hit i = subst (λ (v : Need). Some_of (λ other. IsWithin (less_roles other second.lacks) hit) v.hits) (before_is_wanted rules b need second role f)
+    in_second hit i = subst (λ (v : Need). Some_of (λ other. IsWithin (less_roles other second.lacks) hit) v.hits)
+        (before_is_wanted rules b need second role f)
         (some_left (λ other. IsWithin (less_roles other second.lacks) hit) (filter (λ hit. not (has_role hit role)) need.hits) b.hits
         (some_weaker (λ (other : List ℕ). other ≡ hit) (λ other. IsWithin (less_roles other second.lacks) hit)
         (λ other same r h. subst (λ v. IsIn v r) same (less_in other second.lacks r h)) (filter (λ hit. not (has_role hit role)) need.hits) i))
 
     kept : Each HasLess (filter (λ hit. not (has_role hit given)) need.hits)
     kept = each_by HasLess (filter (λ hit. not (has_role hit given)) need.hits) (λ hit i.
-        let own = some_one (λ x. (x ≡ hit) × (not (has_role x given) ≡ true)) need.hits (filter_in (λ x. x ≡ hit) (λ x. not (has_role x given)) need.hits i) in
+        let own = some_one (λ x. (x ≡ hit) × (not (has_role x given) ≡ true)) need.hits
+        (filter_in (λ x. x ≡ hit) (λ x. not (has_role x given)) need.hits i) in
         in_second hit (in_filter (λ x. x ≡ hit) (λ x. not (has_role x role)) need.hits
         (one_some (λ x. (x ≡ hit) × (not (has_role x role) ≡ true)) need.hits own.0 own.1
         (own.2.0, stays own.0 (each_some (λ hit. IsIn hit role → IsIn hit given) need.hits own.0 takes own.1) own.2.1))))

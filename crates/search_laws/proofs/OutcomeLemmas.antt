@@ -1,5 +1,6 @@
 -- What stands in the course of a search, and what its outcome shows.
-use Rattle.std.proofs.Common.{ℕ, ◌≡◌, ◌<◌, ◌≤◌, ◌+◌, List, [], ◌∷◌, ◌++◌, Some, length, min, take, true, refl, arith, zero, suc, sym, ◌∙◌, ap, subst, inl, inr}
+use Rattle.std.proofs.Common.{ℕ, ◌≡◌, ◌<◌, ◌≤◌, ◌+◌, List, [], ◌∷◌, ◌++◌, Some, length, min, take, true, refl, arith, zero}
+use Rattle.std.proofs.Common.{suc, sym, ◌∙◌, ap, subst, inl, inr}
 use Rattle.std.specs.Prelude.{◌⊎◌, slice_get}
 use Rattle.std.proofs.lemmas.List.{take-append-le}
 use Rattle.list_words.specs.Lists.{Each, IsOneOf}
@@ -182,7 +183,8 @@ pub record Stands (s : Search) (recorded : List Entry) (taken : ℕ) : Type 0 wh
 -- after the round of the goal
 pub first_stands : (s : Search) (recorded : List Entry) → Round s [] (goal_candidates s.rules s.goal) (goes_on recorded) → Stands s recorded 0
 first_stands s recorded round = record {
-  list = round_shows s [] (goal_candidates s.rules s.goal) (goes_on recorded) (recorded_none s.rules s.profiles s.goal) (goal_derived s.rules s.goal []) round;
+  list = round_shows s [] (goal_candidates s.rules s.goal) (goes_on recorded) (recorded_none s.rules s.profiles s.goal)
+      (goal_derived s.rules s.goal []) round;
   goals = λ needs is possible.
       let form = has_form needs possible in
       (covered_alike (s.barriers ++ needs_in recorded) needs form.0 form.1).1
@@ -267,12 +269,14 @@ pub came : (s : Search) → AreSeniors s.rules.order → (outcome : Outcome) →
 came s same outcome o =
     goes_further s outcome (λ recorded. ComesTo s o.rounds recorded 0 outcome) o.walk
     (round_shows s [] (goal_candidates s.rules s.goal) o.walk (recorded_none s.rules s.profiles s.goal) (goal_derived s.rules s.goal []) o.first) o.rest
-    (λ recorded e rest. comes s same o.rounds recorded 0 outcome (first_stands s recorded (subst (Round s [] (goal_candidates s.rules s.goal)) e o.first)) rest)
+    (λ recorded e rest. comes s same o.rounds recorded 0 outcome
+    (first_stands s recorded (subst (Round s [] (goal_candidates s.rules s.goal)) e o.first)) rest)
 
 -- closed
 
 -- where a search is closed, all that is recorded was taken
-pub closed_stands : (s : Search) → AreSeniors s.rules.order → (recorded : List Entry) → IsOutcome s (closed recorded) → Stands s recorded (length recorded)
+pub closed_stands : (s : Search) → AreSeniors s.rules.order → (recorded : List Entry) → IsOutcome s (closed recorded)
+    → Stands s recorded (length recorded)
 closed_stands s same recorded o = by_case (came s same (closed recorded) o)
   where
     by_case : Came s (closed recorded) → Stands s recorded (length recorded)
@@ -351,7 +355,8 @@ walk_full s recorded (entry ∷ entries) outcome (inl h) =
     let e : outcome ≡ found recorded entry = same_end outcome (found recorded entry) h.1 in subst (IsFull s) (sym e) tt
 walk_full s recorded (entry ∷ entries) outcome (inr h) = by_room h.1 (walk_full s (recorded ++ entry ∷ []) entries outcome)
   where
-    by_room : WalksOn s recorded entry entries (ends outcome) → (Walks s (recorded ++ entry ∷ []) entries (ends outcome) → IsFull s outcome) → IsFull s outcome
+    by_room : WalksOn s recorded entry entries (ends outcome) → (Walks s (recorded ++ entry ∷ []) entries (ends outcome) → IsFull s outcome)
+        → IsFull s outcome
     by_room (inl k) again = subst (IsFull s) (sym (same_end outcome (full recorded entry) k.1)) k.0
     by_room (inr k) again = again k.1
 
@@ -363,7 +368,8 @@ round_full s recorded candidates outcome rest onward (ends end) round e = subst 
 round_full s recorded candidates outcome rest onward (goes_on more) round r = onward more r
 
 -- of the rounds
-pub comes_full : (s : Search) (rounds : ℕ) (recorded : List Entry) (taken : ℕ) (outcome : Outcome) → ComesTo s rounds recorded taken outcome → IsFull s outcome
+pub comes_full : (s : Search) (rounds : ℕ) (recorded : List Entry) (taken : ℕ) (outcome : Outcome) → ComesTo s rounds recorded taken outcome
+    → IsFull s outcome
 comes_full s zero recorded taken outcome h = subst (IsFull s) (sym h.1) tt
 comes_full s (suc rounds) recorded taken outcome (inl h) = subst (IsFull s) (sym h.1) tt
 comes_full s (suc rounds) recorded taken outcome (inr h) =

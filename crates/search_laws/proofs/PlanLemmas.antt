@@ -1,5 +1,6 @@
 -- A found entry has one plan, and the plan is a run.
-use Rattle.std.proofs.Common.{ℕ, ◌≡◌, ◌<◌, ◌≤◌, List, [], ◌∷◌, Some, length, get_or, take, refl, arith, zero, suc, sym, ◌∙◌, ap, subst, inl, inr}
+use Rattle.std.proofs.Common.{ℕ, ◌≡◌, ◌<◌, ◌≤◌, List, [], ◌∷◌, Some, length, get_or, take, refl, arith, zero, suc, sym, ◌∙◌, ap}
+use Rattle.std.proofs.Common.{subst, inl, inr}
 use Rattle.std.specs.Prelude.{slice_get}
 use Rattle.list_words.specs.Lists.{IsOneOf}
 use Rattle.list_words.proofs.GetLemmas.{get_taken, same_some, take_all}
@@ -49,7 +50,8 @@ plan_by_origin rules profiles goal recorded list n again entry (of_parent number
     )
 
 -- by the parents, each before its children
-pub planned : (rules : Rules) (profiles : List Profile) (goal : List Term) (recorded : List Entry) → IsRecordedList rules profiles goal recorded → (m n : ℕ)
+pub planned : (rules : Rules) (profiles : List Profile) (goal : List Term) (recorded : List Entry) → IsRecordedList rules profiles goal recorded
+    → (m n : ℕ)
     → n ≤ m
     → (entry : Entry) → IsDerived rules goal (take n recorded) entry → (to : ℕ → ℕ) → (acts : List Act) × Plans rules recorded entry to acts
 planned rules profiles goal recorded list zero n l entry derived to =
@@ -70,7 +72,8 @@ has_plan rules profiles goal recorded list entry derived to =
 -- one plan
 
 -- an origin isn't both
-pub goal_not_parent : (entry : Entry) (number parent : ℕ) (ob : Obligation) → entry.origin ≡ of_goal number → entry.origin ≡ of_parent parent ob → ⊥
+pub goal_not_parent : (entry : Entry) (number parent : ℕ) (ob : Obligation) → entry.origin ≡ of_goal number → entry.origin ≡ of_parent parent ob
+    → ⊥
 goal_not_parent entry number parent ob e f = cc
 
 -- one origin names one parent and one obligation
@@ -143,7 +146,8 @@ is_listed rules goal recorded entry parent ob places derived comes =
 
 -- from users who meet the entry its plan is a run to users who meet the goal
 pub plan_runs : (rules : Rules) → AreSeniors rules.order → (goal : List Term) (recorded : List Entry) → AreDerived rules goal recorded
-    → (acts : List Act) (entry : Entry) → IsDerived rules goal recorded entry → (users : List (List ℕ)) (to : ℕ → ℕ) → MeetsBy users entry.needs to
+    → (acts : List Act) (entry : Entry) → IsDerived rules goal recorded entry → (users : List (List ℕ)) (to : ℕ → ℕ)
+    → MeetsBy users entry.needs to
     → Plans rules recorded entry to acts
     → (end : List (List ℕ)) × Run rules users acts end × GoalMet rules.order.edges goal end
 plan_runs rules same goal recorded each [] entry derived users to met plan = (
@@ -175,7 +179,8 @@ plan_runs rules same goal recorded each (act ∷ acts) entry derived users to me
 
     leads : (new : List (List ℕ)) × Step rules users (act_of plan.1 (length plan.0.needs) raw.0.to) new × MeetsBy new plan.0.needs raw.0.to
     leads =
-        listed_leads rules same users plan.0.needs plan.1 (is_listed rules goal recorded entry plan.0 plan.1 plan.2 derived comes) comes.raw comes.raw_is raw.0
+        listed_leads rules same users plan.0.needs plan.1
+        (is_listed rules goal recorded entry plan.0 plan.1 plan.2 derived comes) comes.raw comes.raw_is raw.0
 
     step : Step rules users act leads.0
     step = subst (λ a. Step rules users a leads.0) (act_same plan.1 (length plan.0.needs) raw.0.to (onward to plan.2) stood ∙ sym plan.4) leads.1
@@ -193,9 +198,11 @@ found_shows s same recorded entry o = by_case (came s same (found recorded entry
     by_case (inr h) = h
 
 -- a found entry has a plan
-pub found_plan : (s : Search) → AreSeniors s.rules.order → (recorded : List Entry) (entry : Entry) → IsOutcome s (found recorded entry) → (to : ℕ → ℕ)
+pub found_plan : (s : Search) → AreSeniors s.rules.order → (recorded : List Entry) (entry : Entry) → IsOutcome s (found recorded entry)
+    → (to : ℕ → ℕ)
     → (acts : List Act) × Plans s.rules recorded entry to acts
-found_plan s same recorded entry o to = let shown = found_shows s same recorded entry o in has_plan s.rules s.profiles s.goal recorded shown.0 entry shown.1 to
+found_plan s same recorded entry o to =
+    let shown = found_shows s same recorded entry o in has_plan s.rules s.profiles s.goal recorded shown.0 entry shown.1 to
 
 -- the plan of a found entry is a run to users who meet the goal
 pub found_runs : (s : Search) → AreSeniors s.rules.order → (recorded : List Entry) (entry : Entry) → IsOutcome s (found recorded entry)

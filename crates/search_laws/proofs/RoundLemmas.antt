@@ -1,5 +1,6 @@
 -- What a round keeps, and that a search has one outcome.
-use Rattle.std.proofs.Common.{ℕ, ◌≡◌, ◌<◌, ◌≤◌, ◌+◌, List, [], ◌∷◌, ◌++◌, length, min, refl, arith, zero, suc, sym, ◌∙◌, ap, subst, inl, inr}
+use Rattle.std.proofs.Common.{ℕ, ◌≡◌, ◌<◌, ◌≤◌, ◌+◌, List, [], ◌∷◌, ◌++◌, length, min, refl, arith, zero, suc, sym, ◌∙◌}
+use Rattle.std.proofs.Common.{ap, subst, inl, inr}
 use Rattle.std.specs.Prelude.{◌⊎◌, slice_get, Some}
 use Rattle.std.proofs.lemmas.List.{append-nil, append_assoc}
 use Rattle.std.proofs.Math.Nat.{min-eq_left, min-eq_right}
@@ -35,7 +36,8 @@ more_is xs y ys = append_assoc xs (y ∷ []) ys
 -- what is left of a walk at an entry that no drawn users meet
 abbrev pub WalksOn : Search → List Entry → Entry → List Entry → Walk → Type 0
 WalksOn s recorded entry entries walk =
-    ((length recorded ≡ s.limit) × (walk ≡ ends (full recorded entry))) ⊎ (¬ (length recorded ≡ s.limit) × Walks s (recorded ++ entry ∷ []) entries walk)
+    ((length recorded ≡ s.limit) × (walk ≡ ends (full recorded entry)))
+    ⊎ (¬ (length recorded ≡ s.limit) × Walks s (recorded ++ entry ∷ []) entries walk)
 
 -- a walk that goes on keeps what is recorded, and all that is walked
 pub walk_kept : (s : Search) (recorded entries more : List Entry) → Walks s recorded entries (goes_on more) → more ≡ recorded ++ entries
@@ -44,7 +46,8 @@ walk_kept s recorded (entry ∷ entries) more (inl h) = absurd (on_not_ends more
 walk_kept s recorded (entry ∷ entries) more (inr h) = by_room h.1 (walk_kept s (recorded ++ entry ∷ []) entries more)
   where
     by_room : WalksOn s recorded entry entries (goes_on more)
-        → (Walks s (recorded ++ entry ∷ []) entries (goes_on more) → more ≡ (recorded ++ entry ∷ []) ++ entries) → more ≡ recorded ++ entry ∷ entries
+        → (Walks s (recorded ++ entry ∷ []) entries (goes_on more) → more ≡ (recorded ++ entry ∷ []) ++ entries)
+        → more ≡ recorded ++ entry ∷ entries
     by_room (inl k) again = absurd (on_not_ends more (full recorded entry) k.1)
     by_room (inr k) again = again k.1 ∙ more_is recorded entry entries
 
@@ -58,13 +61,15 @@ walk_within s recorded (entry ∷ entries) more l (inr h) = by_room h.1 (walk_wi
     room : ¬ (length recorded ≡ s.limit) → length (recorded ++ entry ∷ []) ≤ s.limit
     room n = by_order (compare (length recorded) s.limit)
       where
-        by_order : (length recorded < s.limit) ⊎ ((length recorded ≡ s.limit) ⊎ (s.limit < length recorded)) → length (recorded ++ entry ∷ []) ≤ s.limit
+        by_order : (length recorded < s.limit) ⊎ ((length recorded ≡ s.limit) ⊎ (s.limit < length recorded))
+            → length (recorded ++ entry ∷ []) ≤ s.limit
         by_order (inl less) = let long = length_more recorded entry in omega (arith, long, less)
         by_order (inr (inl e)) = absurd (n e)
         by_order (inr (inr more)) = absurd (omega (arith, l, more))
 
     by_room : WalksOn s recorded entry entries (goes_on more)
-        → (length (recorded ++ entry ∷ []) ≤ s.limit → Walks s (recorded ++ entry ∷ []) entries (goes_on more) → length more ≤ s.limit) → length more ≤ s.limit
+        → (length (recorded ++ entry ∷ []) ≤ s.limit → Walks s (recorded ++ entry ∷ []) entries (goes_on more) → length more ≤ s.limit)
+        → length more ≤ s.limit
     by_room (inl k) again = absurd (on_not_ends more (full recorded entry) k.1)
     by_room (inr k) again = again (room k.0) k.1
 
@@ -105,7 +110,8 @@ covered_more barriers xs ys needs covered = by_side (some_cases (λ one. Covers 
         (subst (λ list. IsCovered list needs) (sym (needs_append xs ys)) (some_left (λ one. Covers one needs) (needs_in xs) (needs_in ys) h))
 
 -- one of the entries covers the requirement
-pub entry_covers : (entries : List Entry) (one : Entry) (needs : List Need) → IsOneOf entries one → Covers one.needs needs → IsCovered (needs_in entries) needs
+pub entry_covers : (entries : List Entry) (one : Entry) (needs : List Need) → IsOneOf entries one → Covers one.needs needs
+    → IsCovered (needs_in entries) needs
 entry_covers entries one needs is covers =
     some_map (λ (e : Entry). e.needs) (λ v. Covers v needs) entries (some_one_at (λ (e : Entry). Covers e.needs needs) entries one is covers)
 
@@ -150,7 +156,8 @@ one_walk s recorded (entry ∷ entries) first second (inr h) (inr k) = by_room h
     by_room (inr a) (inr b) again = again a.1 b.1
 
 -- a round has one end
-pub one_round : (s : Search) (recorded candidates : List Entry) (first second : Walk) → Round s recorded candidates first → Round s recorded candidates second
+pub one_round : (s : Search) (recorded candidates : List Entry) (first second : Walk) → Round s recorded candidates first
+    → Round s recorded candidates second
     → first ≡ second
 one_round s recorded candidates first second a b =
     one_walk s recorded b.list first second

@@ -1,5 +1,6 @@
 -- The small policy, searched: the candidates of each round, which of them stay, and the outcomes.
-use Rattle.std.proofs.Common.{ℕ, ◌≡◌, ◌<◌, ◌≤◌, List, [], ◌∷◌, ◌++◌, Some, length, refl, arith, zero, suc, sym, ◌∙◌, ap, subst, inl, inr}
+use Rattle.std.proofs.Common.{ℕ, ◌≡◌, ◌<◌, ◌≤◌, List, [], ◌∷◌, ◌++◌, Some, length, refl, arith, zero, suc, sym, ◌∙◌, ap}
+use Rattle.std.proofs.Common.{subst, inl, inr}
 use Rattle.std.specs.Prelude.{◌⊎◌, slice_get}
 use Rattle.list_words.specs.Lists.{Each, IsOneOf, Some_of}
 use Rattle.list_words.proofs.CountLemmas.{embeds_long}
@@ -27,7 +28,8 @@ use Rattle.search_laws.specs.Beats.{ArePart, AreUnbeaten, Beats, IsUnbeaten, May
 use Rattle.search_laws.specs.Candidates.{as_candidate, goal_candidates, needs_in, next_candidates}
 use Rattle.search_laws.specs.Plans.{Plans}
 use Rattle.search_laws.specs.Rounds.{IsMet, IsOutcome, Round, Walks, closed, ends, found, full, goes_on}
-use Rattle.search_laws.specs.Rows.{adm_entry, again_entry, given_entry, goal_entry, mix_search, own_entry, taken_entry, third_entry, third_round, three_entries}
+use Rattle.search_laws.specs.Rows.{adm_entry, again_entry, given_entry, goal_entry, mix_search, own_entry, taken_entry, third_entry, third_round}
+use Rattle.search_laws.specs.Rows.{three_entries}
 use Rattle.search_laws.proofs.BeatLemmas.{never_beats}
 use Rattle.search_laws.proofs.RoundLemmas.{one_outcome}
 
@@ -102,7 +104,8 @@ own_not_covering f =
     let e : 0 ≡ 1 = f.apart 0 1 (omega arith) (omega arith) (i ∙ sym j) in omega (arith, e)
   where
     is_second : (k : ℕ) (y : Need) → slice_get (anyone ∷ hits adm ∷ []) k ≡ Some y → CoversNeed (hits adm) y → k ≡ 1
-    is_second zero y at h = let at' : Some anyone ≡ Some y = at in absurd (hit_not_anyone adm (subst (CoversNeed (hits adm)) (sym (same_some anyone y at')) h))
+    is_second zero y at h =
+        let at' : Some anyone ≡ Some y = at in absurd (hit_not_anyone adm (subst (CoversNeed (hits adm)) (sym (same_some anyone y at')) h))
     is_second (suc zero) y at h = refl
     is_second (suc (suc k)) y at h = cc
 
@@ -114,7 +117,8 @@ third_covered = embeds_front CoversNeed anyone anyone (hits adm ∷ []) (hits ad
 -- which candidates stay
 
 -- what beating says of candidates that are known
-pub beats_parts : (candidates : List Entry) (i j : ℕ) (x y : Entry) → slice_get candidates i ≡ Some x → slice_get candidates j ≡ Some y → Beats candidates i j
+pub beats_parts : (candidates : List Entry) (i j : ℕ) (x y : Entry) → slice_get candidates i ≡ Some x → slice_get candidates j ≡ Some y
+    → Beats candidates i j
     → Covers x.needs y.needs × (¬ (x.needs ≡ y.needs) ⊎ (i < j))
 beats_parts candidates i j x y at there b =
     let e : b.by ≡ x = same_some b.by x (sym b.by_is ∙ at) in
@@ -131,7 +135,8 @@ taken_beats_own = record {
   beaten_is = refl;
   covers = third_covers;
   apart =
-      inl (λ e. own_not_covering (subst (λ needs. Covers needs (anyone ∷ hits adm ∷ [])) e (embeds_itself CoversNeed covers_itself (anyone ∷ hits adm ∷ []))));
+      inl (λ e. own_not_covering
+      (subst (λ needs. Covers needs (anyone ∷ hits adm ∷ [])) e (embeds_itself CoversNeed covers_itself (anyone ∷ hits adm ∷ []))));
 }
 
 -- two users beat three
@@ -200,7 +205,8 @@ sorted_unbeaten = record { rising = ((refl, tt), (tt, tt)); each = ((1, second),
     by_second (suc (suc place)) b = let at = b.by_is in cc
 
     by_first : (place : ℕ) → Beats (goal_entry ∷ adm_entry ∷ []) place 1 → ⊥
-    by_first zero b = no_place (hits c) [] (hits adm ∷ []) (c_not_adm, tt) (beats_parts (goal_entry ∷ adm_entry ∷ []) 0 1 goal_entry adm_entry refl refl b).0
+    by_first zero b = no_place (hits c) [] (hits adm ∷ []) (c_not_adm, tt)
+        (beats_parts (goal_entry ∷ adm_entry ∷ []) 0 1 goal_entry adm_entry refl refl b).0
     by_first (suc zero) b = never_beats (goal_entry ∷ adm_entry ∷ []) 1 b
     by_first (suc (suc place)) b = let at = b.by_is in cc
 
@@ -255,7 +261,8 @@ second_new (inr h) = h
 -- what is recorded doesn't cover the third requirement
 pub third_new : IsCovered (needs_in mix_entries) (anyone ∷ hits adm ∷ []) → ⊥
 third_new (inl f) = no_place (hits c) [] (anyone ∷ hits adm ∷ []) (hit_not_anyone c, (c_not_adm, tt)) f
-third_new (inr (inl f)) = no_place (without adm) (hits adm ∷ []) (anyone ∷ hits adm ∷ []) (lack_not_free anyone refl, (lack_not_free (hits adm) refl, tt)) f
+third_new (inr (inl f)) =
+    no_place (without adm) (hits adm ∷ []) (anyone ∷ hits adm ∷ []) (lack_not_free anyone refl, (lack_not_free (hits adm) refl, tt)) f
 third_new (inr (inr h)) = h
 
 -- profiles of users who have adm alone
@@ -297,7 +304,8 @@ two_met = ((adm ∷ []) ∷ (adm ∷ []) ∷ [], drawn, met)
     }
       where
         places : (k place : ℕ) → slice_get (0 ∷ 0 ∷ []) k ≡ Some place → (profile : Profile) × (slice_get two_admins place ≡ Some profile)
-        places zero place at = let same : 0 ≡ place = cc in subst (λ p. (profile : Profile) × (slice_get two_admins p ≡ Some profile)) same (profile, refl)
+        places zero place at =
+            let same : 0 ≡ place = cc in subst (λ p. (profile : Profile) × (slice_get two_admins p ≡ Some profile)) same (profile, refl)
         places (suc zero) place at =
             let same : 0 ≡ place = cc in subst (λ p. (profile : Profile) × (slice_get two_admins p ≡ Some profile)) same (profile, refl)
         places (suc (suc k)) place at = cc
@@ -391,7 +399,8 @@ mix_full = record {
   where
     round : Round (mix_search two_admins 1) (goal_entry ∷ []) (next_candidates mix (goal_entry ∷ []) 0) (ends (full (goal_entry ∷ []) given_entry))
     round =
-        subst (λ candidates. Round (mix_search two_admins 1) (goal_entry ∷ []) candidates (ends (full (goal_entry ∷ []) given_entry))) (sym second_candidates)
+        subst (λ candidates. Round (mix_search two_admins 1) (goal_entry ∷ []) candidates (ends (full (goal_entry ∷ []) given_entry)))
+        (sym second_candidates)
         (record {
           list = given_entry ∷ [];
           unbeaten = single_unbeaten (needs_in (goal_entry ∷ [])) given_entry second_new;

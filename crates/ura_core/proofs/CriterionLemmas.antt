@@ -13,7 +13,8 @@ NoneBefore {A} P xs n = (k : ℕ) (x : A) → k < n → slice_get xs k ≡ Some 
 pub none_yet : {A : Type 0} (P : A → Type 0) (xs : List A) → NoneBefore P xs 0
 none_yet P xs k x l e h = absurd (omega arith)
 
-pub none_more : {A : Type 0} (P : A → Type 0) (xs : List A) (i : ℕ) (x : A) → NoneBefore P xs i → slice_get xs i ≡ Some x → (P x → ⊥) → NoneBefore P xs (i + 1)
+pub none_more : {A : Type 0} (P : A → Type 0) (xs : List A) (i : ℕ) (x : A) → NoneBefore P xs i → slice_get xs i ≡ Some x → (P x → ⊥)
+    → NoneBefore P xs (i + 1)
 none_more P xs i x before e none = below_more (λ y. P y → ⊥) xs i x before e none
 
 pub none_at_all : {A : Type 0} (P : A → Type 0) (xs : List A) (n : ℕ) → NoneBefore P xs n → length xs ≤ n → Some_of P xs → ⊥

@@ -1,5 +1,6 @@
 -- An act that is denied has no step.
-use Rattle.std.proofs.Common.{ℕ, ◌≡◌, ◌<◌, ◌≤◌, ◌∙◌, true, List, [], ◌∷◌, length, refl, arith, sym, subst, ap, inl, inr, Some, None, eqb}
+use Rattle.std.proofs.Common.{ℕ, ◌≡◌, ◌<◌, ◌≤◌, ◌∙◌, true, List, [], ◌∷◌, length, refl, arith, sym, subst, ap, inl, inr, Some}
+use Rattle.std.proofs.Common.{None, eqb}
 use Rattle.std.specs.Prelude.{◌⊎◌, slice_get, slice_set}
 use Rattle.std.proofs.lemmas.Bool.{eqb-true, eq-eqb}
 use Rattle.list_words.specs.Lists.{Some_of}
@@ -75,7 +76,8 @@ assign_denied_no holder rules users old admin target role part new (inr h) step 
 
 pub weak_denied_no : (holder : Holder) (rules : Rules) (users old : List (List ℕ)) (admin target role : ℕ) (part : Part) (new : List (List ℕ))
     → WeakDenied holder rules users old admin target role part → WeakStep holder rules users old admin target role new → ⊥
-weak_denied_no holder rules users old admin target role part new (inl h) step = places_no users old admin target part step.by step.set h step.by_is step.set_is
+weak_denied_no holder rules users old admin target role part new (inl h) step =
+    places_no users old admin target part step.by step.set h step.by_is step.set_is
 weak_denied_no holder rules users old admin target role part new (inr h) step =
     let same_by : step.by ≡ h.0 = cc (step.by_is, h.2) in
     revoke_no holder rules h.0 role part h.4 (subst (λ b. Some_of (LetsRevoke rules b role) (revoke_rules holder rules)) same_by step.lets)
@@ -87,7 +89,8 @@ weak_step_one holder rules users old admin target role new other a b =
     let same : a.set ≡ b.set = cc (a.set_is, b.set_is) in
     a.gives ∙ ap (λ s. slice_set old target (without_role s role)) same ∙ sym b.gives
 
-pub weaks_denied_no : (holder : Holder) (rules : Rules) (users old : List (List ℕ)) (admin target : ℕ) (roles : List ℕ) (part : Part) (new : List (List ℕ))
+pub weaks_denied_no : (holder : Holder) (rules : Rules) (users old : List (List ℕ)) (admin target : ℕ) (roles : List ℕ) (part : Part)
+    (new : List (List ℕ))
     → WeaksDenied holder rules users old admin target roles part → WeakSteps holder rules users old admin target roles new → ⊥
 weaks_denied_no holder rules users old admin target [] part new h steps = h
 weaks_denied_no holder rules users old admin target (role ∷ roles) part new (inl h) steps =
@@ -98,7 +101,8 @@ weaks_denied_no holder rules users old admin target (role ∷ roles) part new (i
     (subst (λ m. WeaksDenied holder rules users m admin target roles part) same h.2) steps.2
 
 -- each role of weak steps is one of the order's
-pub weak_steps_role : (holder : Holder) (rules : Rules) (users old : List (List ℕ)) (admin target : ℕ) (roles : List ℕ) (new : List (List ℕ)) (role : ℕ)
+pub weak_steps_role : (holder : Holder) (rules : Rules) (users old : List (List ℕ)) (admin target : ℕ) (roles : List ℕ) (new : List (List ℕ))
+    (role : ℕ)
     → WeakSteps holder rules users old admin target roles new → has_role roles role ≡ true → role < length rules.order.names
 weak_steps_role holder rules users old admin target [] new role steps h = cc
 weak_steps_role holder rules users old admin target (first ∷ roles) new role steps h =
@@ -111,8 +115,10 @@ weak_steps_role holder rules users old admin target (first ∷ roles) new role s
         subst (λ r. r < length rules.order.names) (eqb-true first role e) one.2.in_range.is_role
     by_case (inr k) rest = rest k
 
-pub strong_denied_no : (holder : Holder) (rules : Rules) (users old : List (List ℕ)) (admin target role : ℕ) (part : Part) (new : List (List ℕ)) (by : List ℕ)
-    → StrongDenied holder rules users old admin target role part → slice_get users admin ≡ Some by → StrongStep holder rules users old admin target role new → ⊥
+pub strong_denied_no : (holder : Holder) (rules : Rules) (users old : List (List ℕ)) (admin target role : ℕ) (part : Part) (new : List (List ℕ))
+    (by : List ℕ)
+    → StrongDenied holder rules users old admin target role part → slice_get users admin ≡ Some by
+    → StrongStep holder rules users old admin target role new → ⊥
 strong_denied_no holder rules users old admin target role part new by (inl h) at step = places_no users old admin target part by step.set h at step.set_is
 strong_denied_no holder rules users old admin target role part new by (inr h) at step = by_case h.4
   where
@@ -132,13 +138,15 @@ strong_denied_no holder rules users old admin target role part new by (inr h) at
     by_case (inr k) = weaks_denied_no holder rules users old admin target (falling holder rules.order h.1 role) part new k.1 steps
 
 -- who takes roles away is there
-pub weak_steps_admin : (holder : Holder) (rules : Rules) (users old : List (List ℕ)) (admin target : ℕ) (roles : List ℕ) (new : List (List ℕ)) (role : ℕ)
+pub weak_steps_admin : (holder : Holder) (rules : Rules) (users old : List (List ℕ)) (admin target : ℕ) (roles : List ℕ) (new : List (List ℕ))
+    (role : ℕ)
     → WeakSteps holder rules users old admin target roles new → has_role roles role ≡ true
     → (by : List ℕ) × (slice_get (admins_of holder users old) admin ≡ Some by)
 weak_steps_admin holder rules users old admin target [] new role steps h = cc
 weak_steps_admin holder rules users old admin target (first ∷ roles) new role steps h = (steps.1.by, steps.1.by_is)
 
-pub kind_denied_no : (kind : ActKind) (holder : Holder) (rules : Rules) (users old : List (List ℕ)) (admin target role : ℕ) (part : Part) (new : List (List ℕ))
+pub kind_denied_no : (kind : ActKind) (holder : Holder) (rules : Rules) (users old : List (List ℕ)) (admin target role : ℕ) (part : Part)
+    (new : List (List ℕ))
     → admins_of holder users old ≡ users → KindDenied kind holder rules users old admin target role part
     → KindStep kind holder rules users old admin target role new → ⊥
 kind_denied_no Assign holder rules users old admin target role part new same denied step =

@@ -15,7 +15,8 @@ pub member_more : (edges : List (ℕ × ℕ)) (set : List ℕ) (role other : ℕ
 member_more edges set role other member =
     (member.0, has_role-with_role set role member.0 ∙ or_right (eqb role member.0) (has_role set member.0) member.1, member.2)
 
-pub member_split : (edges : List (ℕ × ℕ)) (set : List ℕ) (role other : ℕ) → (Leads edges role other → ⊥) → IsMember edges (with_role set role) other
+pub member_split : (edges : List (ℕ × ℕ)) (set : List ℕ) (role other : ℕ) → (Leads edges role other → ⊥)
+    → IsMember edges (with_role set role) other
     → IsMember edges set other
 member_split edges set role other none member =
     by_case (or_cases (eqb role member.0) (has_role set member.0) (sym (has_role-with_role set role member.0) ∙ member.1))

@@ -1,5 +1,6 @@
 -- Steps of weak revocations one after another, and why a denied act has no step.
-use Rattle.std.proofs.Common.{ℕ, ◌≡◌, ◌<◌, ◌≤◌, ◌+◌, ◌∙◌, Bool, true, false, eqb, ltb, List, [], ◌∷◌, ◌++◌, length, refl, arith, zero, suc, sym, subst, ap, inl, inr, Some}
+use Rattle.std.proofs.Common.{ℕ, ◌≡◌, ◌<◌, ◌≤◌, ◌+◌, ◌∙◌, Bool, true, false, eqb, ltb, List, [], ◌∷◌, ◌++◌, length}
+use Rattle.std.proofs.Common.{refl, arith, zero, suc, sym, subst, ap, inl, inr, Some}
 use Rattle.std.specs.Prelude.{◌⊎◌, filter, nat_lt, slice_get, slice_set}
 use Rattle.std.proofs.lemmas.Bool.{eqb-true, eq-eqb, false≢true}
 use Rattle.std.proofs.lemmas.Bool.Decides.{nat_tests}
@@ -22,7 +23,8 @@ none_below (x ∷ xs) n h = let ge : ltb x n ≡ false = grind (arith, nat_tests
 
 -- a rising list around one of its roles: those below it, the role and the rest
 around : (xs : List ℕ) (at : ℕ) → Rises xs → has_role xs at ≡ true
-    → (rest : List ℕ) × (xs ≡ filter (λ x. nat_lt x at) xs ++ at ∷ rest) × (filter (λ x. nat_lt x (at + 1)) xs ≡ filter (λ x. nat_lt x at) xs ++ at ∷ [])
+    → (rest : List ℕ) × (xs ≡ filter (λ x. nat_lt x at) xs ++ at ∷ rest)
+    × (filter (λ x. nat_lt x (at + 1)) xs ≡ filter (λ x. nat_lt x at) xs ++ at ∷ [])
 around [] at rises h = cc
 around (x ∷ xs) at rises h = by_order (compare x at) (λ k. around xs at rises.1 k)
   where
@@ -51,11 +53,13 @@ around (x ∷ xs) at rises h = by_order (compare x at) (λ k. around xs at rises
         absurd (false≢true (sym gone ∙ there))
 
 -- the roles below a number, and the next one where it is there
-pub below_next : (xs : List ℕ) (at : ℕ) → Rises xs → has_role xs at ≡ true → filter (λ x. nat_lt x (at + 1)) xs ≡ filter (λ x. nat_lt x at) xs ++ at ∷ []
+pub below_next : (xs : List ℕ) (at : ℕ) → Rises xs → has_role xs at ≡ true
+    → filter (λ x. nat_lt x (at + 1)) xs ≡ filter (λ x. nat_lt x at) xs ++ at ∷ []
 below_next xs at rises h = (around xs at rises h).2
 
 -- a rising list around one of its roles
-pub split_at : (xs : List ℕ) (at : ℕ) → Rises xs → has_role xs at ≡ true → (rest : List ℕ) × (xs ≡ filter (λ x. nat_lt x at) xs ++ at ∷ rest)
+pub split_at : (xs : List ℕ) (at : ℕ) → Rises xs → has_role xs at ≡ true → (rest : List ℕ)
+    × (xs ≡ filter (λ x. nat_lt x at) xs ++ at ∷ rest)
 split_at xs at rises h = let r = around xs at rises h in (r.0, r.1)
 
 -- where the next one isn't there

@@ -3,4 +3,11 @@ use Rattle.arbac_laws.proofs.ListingRowLemmas.{second_assigned, not_other_itself
 use Rattle.arbac_laws.proofs.rows.obligation_rows.Goals as goal
 
 pub returns : goal.returns
-returns _ = record { assigned = second_assigned; itself = not_other_itself; revoked = first_revoked; not_barred = second_not_barred; first = refl; last = refl }
+returns _ = record {
+  assigned = second_assigned;
+  itself = not_other_itself;
+  revoked = first_revoked;
+  not_barred = second_not_barred;
+  first = refl;
+  last = refl;
+}

@@ -1,5 +1,7 @@
 use Rattle.std.proofs.Common.{refl}
-use Rattle.arbac_laws.proofs.RelevanceRowLemmas.{c_needed, lack_not_needed, c_assigned, adm_assigns_none, d_not_barred, adm_revoked, adm_revokes_none, mix_closed, adm_not_closed, adm_part, mix_no_part, mix_least, adm_least, mix_not_least, none_relevant, second_derived, c_not_derived}
+use Rattle.arbac_laws.proofs.RelevanceRowLemmas.{c_needed, lack_not_needed, c_assigned, adm_assigns_none, d_not_barred, adm_revoked, adm_revokes_none}
+use Rattle.arbac_laws.proofs.RelevanceRowLemmas.{mix_closed, adm_not_closed, adm_part, mix_no_part, mix_least, adm_least, mix_not_least, none_relevant}
+use Rattle.arbac_laws.proofs.RelevanceRowLemmas.{second_derived, c_not_derived}
 use Rattle.arbac_laws.proofs.rows.relevance_rows.Goals as goal
 
 pub returns : goal.returns

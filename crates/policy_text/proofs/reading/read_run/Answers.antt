@@ -14,7 +14,8 @@ returns-clause-few c = IfOk-weaker c.read.result _ _ (λ run h. few_of c.args.by
 
 pub returns-clause-goal : goal.returns-clause-goal
 returns-clause-goal c =
-    IfOk-weaker c.read.result _ _ (λ run h. let long = length-map run.goal.items term_of in let some = h.goal in omega (arith, long, some)) c.read.ensures.found
+    IfOk-weaker c.read.result _ _ (λ run h. let long = length-map run.goal.items term_of in let some = h.goal in
+    omega (arith, long, some)) c.read.ensures.found
 
 pub returns-clause-known : goal.returns-clause-known
 returns-clause-known c = IfOk-weaker c.read.result _ _ (λ run h. known_of c.args.bytes.now (plain_of run) h) c.read.ensures.found

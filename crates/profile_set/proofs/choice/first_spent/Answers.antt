@@ -6,7 +6,8 @@ use Rattle.arbac_policy.specs.Goals.{times}
 use Rattle.profile_set.specs.Draws.{has_left}
 use Rattle.profile_set.proofs.DrawLemmas.{times_few, used_of, uses_none, uses_here, uses_other, few_none, few_other, few_here, spent_at}
 use Rattle.profile_set.proofs.choice.first_spent.Goals as goal
-use Rattle.profile_set.proofs.choice.first_spent.Goals.{then-number-from-via-then-number-from, then-number-from-via-else-number-from+then-number-from-ge-BLOCK}
+use Rattle.profile_set.proofs.choice.first_spent.Goals.{then-number-from-via-then-number-from}
+use Rattle.profile_set.proofs.choice.first_spent.Goals.{then-number-from-via-else-number-from+then-number-from-ge-BLOCK}
 
 pub loop-at-init : goal.loop-at-init
 loop-at-init c = record {

@@ -11,5 +11,6 @@ pub returns : goal.returns
 returns c =
     let found = option_map (λ texts. (texts.0.now, texts.1.now)) c.args.texts in
     let texts = c.in_ok-texts.texts in
-    answers_on (λ roles. roles) (of_kind found c.args.path.now) (both_roles c.args.order.now.names c.args.path.now) (texts.0.now, texts.1.now) c.both_roles.result
+    answers_on (λ roles. roles) (of_kind found c.args.path.now) (both_roles c.args.order.now.names c.args.path.now)
+    (texts.0.now, texts.1.now) c.both_roles.result
     (kind_seen (λ texts. (texts.0.now, texts.1.now)) c.args.texts found c.args.path.now texts refl c.in_ok-texts.ensures) c.both_roles.ensures

@@ -18,7 +18,8 @@ pub returns-in-Denied-clause-denied : goal.returns-in-Denied-clause-denied
 returns-in-Denied-clause-denied c =
     let there : has_role c.falling-falling.result c.loop-role.role ≡ true = sym c.has.ensures.value ∙ c.if-has.true in
     let split = split_at c.falling-falling.result c.loop-role.role c.falling-falling.ensures.rises there in
-    subst (λ roles. WeaksDenied c.args.on c.args.policy.now c.args.users.now c.args.list.now c.args.act.now.admin c.args.act.now.target roles c.in-Denied.part)
+    subst (λ roles. WeaksDenied c.args.on c.args.policy.now c.args.users.now c.args.list.now c.args.act.now.admin c.args.act.now.target roles
+    c.in-Denied.part)
     (sym split.1 ∙ c.falling-falling.ensures.falling)
     (weaks_denied_at c.args.on c.args.policy.now c.args.users.now c.args.list.now
     (slice_set c.args.list.now c.args.act.now.target c.loop-role.left) c.args.act.now.admin c.args.act.now.target

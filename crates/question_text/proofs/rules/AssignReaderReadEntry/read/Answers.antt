@@ -5,4 +5,6 @@ use Rattle.question_text.proofs.SeenLemmas.{seen_answer}
 use Rattle.question_text.proofs.rules.AssignReaderReadEntry.read.Goals as goal
 
 pub returns : goal.returns
-returns c = seen_answer plain_rule (an_assign_rule c.args.self.now.separate c.args.self.now.admins.now c.args.self.now.order.now.names c.args.path.now (view c.args.value.now)) c.an_assign_rule.result c.an_assign_rule.ensures
+returns c = seen_answer plain_rule
+    (an_assign_rule c.args.self.now.separate c.args.self.now.admins.now c.args.self.now.order.now.names c.args.path.now
+    (view c.args.value.now)) c.an_assign_rule.result c.an_assign_rule.ensures
