@@ -161,6 +161,22 @@ raised_above count edges above senior junior table s j = record {
             from (inl l) = (old_are q).1 l
             from (inr l) = absurd (false≢true (sym t ∙ (old_are junior).1 l.1))
 
+-- the table is that with one more edge, along which the others lead already
+pub known_above : (count : ℕ) (edges : List (ℕ × ℕ)) (above : List (List ℕ)) (senior junior : ℕ) → AreAbove count edges above → Leads edges senior junior
+    → AreAbove count (edges ++ (senior, junior) ∷ []) above
+known_above count edges above senior junior table known = record {
+  long = table.long;
+  rise = table.rise;
+  each = λ role set e q. (
+    λ h. leads_still ((table.each role set e q).0 h) (senior, junior),
+    λ led. from role set e q (leads_split edges senior junior led),
+  );
+}
+  where
+    from : (role : ℕ) (set : List ℕ) → slice_get above role ≡ Some set → (q : ℕ) → Leads edges q role ⊎ (Leads edges q senior × Leads edges junior role) → IsIn set q
+    from role set e q (inl led) = (table.each role set e q).1 led
+    from role set e q (inr led) = (table.each role set e q).1 (Leads-join led.0 role (Leads-join known role led.1))
+
 -- no cycle up to a place, and none by the edge there
 pub acyclic_more : (edges : List (ℕ × ℕ)) (i : ℕ) (edge : ℕ × ℕ) → slice_get edges i ≡ Some edge → AreAcyclic (take i edges) → (Leads (take i edges) edge.1 edge.0 → ⊥)
     → AreAcyclic (take (i + 1) edges)

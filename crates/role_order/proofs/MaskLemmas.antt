@@ -1,5 +1,5 @@
 -- Masks and the sets that they stand for.
-use Rattle.std.proofs.Common.{ℕ, ◌≡◌, ◌+◌, ◌-◌, ◌*◌, ◌/◌, ◌%◌, ◌^◌, ◌<◌, ◌≤◌, Bool, true, false, not, ◌||◌, ◌&&◌, cond, eqb, ltb, leb, List, [], ◌∷◌, length, refl, arith, zero, suc, ap, sym, ◌∙◌, inl, inr, subst, tests, min, max}
+use Rattle.std.proofs.Common.{ℕ, ◌≡◌, ◌+◌, ◌-◌, ◌*◌, ◌/◌, ◌%◌, ◌^◌, ◌<◌, ◌≤◌, Bool, true, false, not, ◌||◌, ◌&&◌, cond, eqb, ltb, List, [], ◌∷◌, length, refl, arith, zero, suc, ap, sym, ◌∙◌, inl, inr, subst, min, max}
 use Rattle.std.specs.Prelude.{◌⊎◌, filter, bit_and, bit_or, bit_xor, nat_eq, ◌==◌}
 use Rattle.std.specs.Bool.{Decides}
 use Rattle.std.specs.Cmp.Lexicographic.{pointwise}
@@ -10,14 +10,14 @@ use Rattle.std.proofs.lemmas.Bool.{ne_eqb, eq-eqb, eqb-true, false≢true}
 use Rattle.std.proofs.lemmas.Bool.Decides.{nat_tests}
 use Rattle.std.proofs.Math.Nat.{zero-mul, one-mul, pow-suc}
 use Rattle.std.proofs.lemmas.Nat.{or_lt, xor_lt, and_le_l, pow_below, pow_pos, shr-shr, shr_le, ones_cat, div-add-mod', div_below, mod_below}
-use Rattle.std.proofs.lemmas.Nat.Bits.{and_pow, bit_at_lowest, bit_at-suc, bit_at-trailing_zeros, bit_at_and, bit_at_or, bit_at_xor, bit_at-lt, bit_at-zero, bit_at_above, bit_at_not, bit_at-pow_same, bit_at-pow_other}
+use Rattle.std.proofs.lemmas.Nat.Bits.{and_pow, bit_at_lowest, bit_at-suc, bit_at-trailing_zeros, bit_at_and, bit_at_or, bit_at_xor, bit_at-zero, bit_at_above, bit_at_not, bit_at-pow_same, bit_at-pow_other}
 use Rattle.role_order.specs.declared.TheConstants.{MOST_ROLES, MASK_BITS}
 use Rattle.role_order.specs.Reach.{count_up}
 use Rattle.role_order.specs.Roles.{has_role, with_role, without_role, less_roles, common_roles, join_roles, Rises, IsFirstFrom, IsRoleSet}
 use Rattle.role_order.specs.Masks.{has_bit, is_held, held_roles, low_of, high_of, AreMasks, IsNextBit}
 use Rattle.role_order.specs.MasksBack.{bit_cases, has_bit_of_one, has_bit_of_zero, has_role-held_roles, low_back, high_back}
-use Rattle.role_order.proofs.SetLemmas.{has_role-filter, has_role-count_up, has_role-with_role, has_role-join_roles, rises-with_role, rises-join_roles, rises-filter, rises-count_up, same_set}
-use Rattle.list_words.proofs.TestLemmas.{same_test, not_false}
+use Rattle.role_order.proofs.SetLemmas.{has_role-filter, has_role-with_role, has_role-join_roles, rises-with_role, rises-join_roles, rises-filter, rises-count_up, same_set}
+use Rattle.list_words.proofs.TestLemmas.{same_test}
 
 pub bit_of_true : (mask k : ℕ) → has_bit mask k ≡ true → bit_at mask k ≡ 1
 unfolding has_bit

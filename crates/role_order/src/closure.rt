@@ -77,7 +77,10 @@ pub fn close(alloc: Global, count: u16, edges: &[(u16, u16)]) -> Result<Closure,
         if above[senior as usize].has(junior) {
             return Ok(Closure::Cycle(place));
         }
-        add_edge(&mut above, senior, junior);
+        // An edge that the others lead along too adds nothing.
+        if !above[junior as usize].has(senior) {
+            add_edge(&mut above, senior, junior);
+        }
     }
     Ok(Closure::Table(above))
 }

@@ -1,8 +1,7 @@
-use Rattle.std.proofs.Common.{ℕ, ◌≡◌, ◌<◌, ◌∙◌, List, sym, arith, Some, ap, true}
+use Rattle.std.proofs.Common.{◌≡◌, ◌∙◌, sym, arith, Some, ap}
 use Rattle.std.specs.Prelude.{slice_get}
 use Rattle.std.proofs.lemmas.Bool.{false≢true}
 use Rattle.list_words.proofs.GetLemmas.{get_at, get_below}
-use Rattle.role_order.specs.Roles.{has_role}
 use Rattle.role_order.specs.Closures.{HasAt}
 use Rattle.role_order.proofs.ClosureLemmas.{one_more, no_more, all_of_them, has_at_place}
 use Rattle.role_order.proofs.SetLemmas.{rises-with_role}

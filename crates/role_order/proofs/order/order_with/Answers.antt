@@ -1,6 +1,5 @@
-use Rattle.std.proofs.Common.{◌≡◌, ◌∙◌, arith, ap, length, sym, subst}
+use Rattle.std.proofs.Common.{arith, length}
 use Rattle.role_order.specs.Names.{texts}
-use Rattle.role_order.specs.Closures.{AreTurned}
 use Rattle.role_order.proofs.NameLemmas.{length_texts}
 use Rattle.role_order.proofs.ClosureLemmas.{turned_table}
 use Rattle.role_order.proofs.order.order_with.Goals as goal

@@ -1,5 +1,4 @@
 use Rattle.std.proofs.Common.{◌≡◌, ◌<◌, ◌∙◌, ap, sym, arith, length, Some}
-use Rattle.std.specs.Prelude.{slice_get}
 use Rattle.list_words.proofs.GetLemmas.{get_at}
 use Rattle.role_order.specs.Graph.{Graph}
 use Rattle.role_order.proofs.ClosureLemmas.{below_role}

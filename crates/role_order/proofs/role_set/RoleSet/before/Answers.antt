@@ -1,6 +1,6 @@
-use Rattle.std.proofs.Common.{ℕ, ◌≡◌, ◌<◌, ◌∙◌, Bool, true, false, sym, ap, not, arith, refl}
+use Rattle.std.proofs.Common.{◌≡◌, ◌∙◌, Bool, true, false, sym, ap, not, arith, refl}
 use Rattle.std.specs.Prelude.{is_some}
-use Rattle.role_order.specs.Roles.{has_role, differ, IsFirstFrom}
+use Rattle.role_order.specs.Roles.{has_role, IsFirstFrom}
 use Rattle.role_order.proofs.OrderLemmas.{set_order}
 use Rattle.role_order.proofs.SetLemmas.{same_set}
 use Rattle.role_order.proofs.FirstLemmas.{before_where_first_has, before_where_second_has, not_before_itself, differ_not, differ_first, differ_second, none_at_first}

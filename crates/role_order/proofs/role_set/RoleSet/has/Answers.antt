@@ -1,6 +1,4 @@
-use Rattle.std.proofs.Common.{◌≤◌, ◌∙◌, arith, sym}
-use Rattle.std.proofs.lemmas.Bool.Decides.{nat_tests}
-use Rattle.role_order.specs.declared.TheConstants.{MASK_BITS}
+use Rattle.std.proofs.Common.{◌∙◌, sym}
 use Rattle.role_order.proofs.MaskLemmas.{has_role-masks, in_low, in_high, is_role_set}
 use Rattle.role_order.proofs.role_set.RoleSet.has.Goals as goal
 

@@ -1,4 +1,3 @@
-use Rattle.std.proofs.Common.{ap}
 use Rattle.std.proofs.lemmas.Bool.{eqb-true, eq-eqb}
 use Rattle.role_order.proofs.MaskLemmas.{masks_of_none, set_of_masks_none}
 use Rattle.role_order.proofs.role_set.RoleSet.is_empty.Goals as goal

@@ -1,5 +1,5 @@
 use Rattle.std.proofs.Common.{ℕ, ◌≡◌, ◌+◌, ◌-◌, ◌≤◌, ◌∙◌, sym, false, arith}
-use Rattle.role_order.specs.declared.TheConstants.{MOST_ROLES, MASK_BITS}
+use Rattle.role_order.specs.declared.TheConstants.{MASK_BITS}
 use Rattle.role_order.specs.Roles.{has_role, IsFirstFrom}
 use Rattle.role_order.specs.Masks.{has_bit, IsNextBit}
 use Rattle.role_order.proofs.MaskLemmas.{first_in_low, first_in_high, none_from, is_role_set}

@@ -1,4 +1,3 @@
-use Rattle.std.proofs.Common.{◌∙◌}
 use Rattle.role_order.proofs.MaskLemmas.{set_without_low, set_without_high, set_without_none}
 use Rattle.role_order.proofs.role_set.RoleSet.without.Goals.{then-role, else-role}
 use Rattle.role_order.proofs.role_set.RoleSet.without.Goals as goal

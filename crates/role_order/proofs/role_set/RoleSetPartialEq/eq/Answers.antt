@@ -1,4 +1,4 @@
-use Rattle.std.proofs.Common.{eqb, sym, ◌∙◌}
+use Rattle.std.proofs.Common.{eqb}
 use Rattle.std.proofs.lemmas.Bool.{eqb-true, eq-eqb}
 use Rattle.role_order.proofs.MaskLemmas.{equal_masks}
 use Rattle.role_order.proofs.role_set.RoleSetPartialEq.eq.Goals as goal
