@@ -1,5 +1,5 @@
 -- Matchings of the pairs that go together, and transversals.
-use Rattle.std.proofs.Common.{ℕ, ◌≡◌, ◌<◌, ◌+◌, List, [], ◌∷◌, length, get_or, refl, arith, zero, suc, sym, subst, inl, inr, Option, Some, None}
+use Rattle.std.proofs.Common.{ℕ, ◌≡◌, ◌<◌, ◌+◌, List, length, get_or, sym, subst, inl, inr, Option, Some, None}
 use Rattle.std.specs.Prelude.{◌⊎◌, ◌↔◌, Contains, slice_get, replicate, IfNone}
 use Rattle.std.proofs.lemmas.List.{length-replicate, get_or_default}
 use Rattle.list_words.specs.Embeds.{Embeds}

@@ -1,5 +1,5 @@
 -- The normal form of one user requirement, hit by hit.
-use Rattle.std.proofs.Common.{ℕ, ◌≡◌, ◌<◌, ◌≤◌, ◌∙◌, Bool, true, false, not, cond, List, [], ◌∷◌, length, map, Some, zero, suc, refl, ap, sym, subst, arith, take, drop}
+use Rattle.std.proofs.Common.{ℕ, ◌≡◌, ◌∙◌, Bool, true, false, not, cond, List, [], ◌∷◌, map, Some, zero, suc, refl, ap, sym, subst, arith, take, drop}
 use Rattle.std.specs.Prelude.{◌||◌, None, slice_get, insert, filter}
 use Rattle.std.specs.List.{list_any}
 use Rattle.list_words.specs.Lists.{Each}

@@ -1,6 +1,6 @@
 -- A matching of user requirements and profiles is a choice that serves the requirement.
 use Rattle.std.proofs.Common.{ℕ, ◌≡◌, ◌<◌, ◌≤◌, ◌+◌, ◌∙◌, true, cond, List, [], ◌∷◌, length, get_or, refl, arith, zero, suc, sym, subst, ap, Some}
-use Rattle.std.specs.Prelude.{◌↔◌, ◌==◌, Contains, slice_get}
+use Rattle.std.specs.Prelude.{◌==◌, Contains, slice_get}
 use Rattle.list_words.proofs.GetLemmas.{get_within, get_any, get_at, get_there}
 use Rattle.arbac_policy.specs.declared.profile.Profile.{Profile}
 use Rattle.list_words.specs.Embeds.{Embeds}
