@@ -1,5 +1,5 @@
 -- Whether one user requirement covers another.
-use Rattle.std.proofs.Common.{ℕ, ◌≡◌, ◌∙◌, Bool, true, false, sym}
+use Rattle.std.proofs.Common.{◌≡◌, ◌∙◌, Bool, true, false, sym}
 use Rattle.std.specs.Prelude.{◌↔◌, IsTrue}
 use Rattle.std.specs.List.{list_all, list_any}
 use Rattle.list_words.proofs.TestLemmas.{and_both, both_true}

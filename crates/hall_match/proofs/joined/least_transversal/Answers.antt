@@ -1,5 +1,4 @@
-use Rattle.std.proofs.Common.{rules, ℕ, ◌≡◌, ◌<◌, length, get_or}
-use Rattle.std.specs.Prelude.{IfNone, IfSome}
+use Rattle.std.proofs.Common.{ℕ, ◌≡◌, ◌<◌, length, get_or}
 use Rattle.hall_match.specs.Firsts.{AreFirstPlaces, HasNoPlace}
 use Rattle.hall_match.proofs.FirstLemmas.{firsts_least, none_first}
 use Rattle.hall_match.proofs.joined.least_transversal.Goals as goal

@@ -1,6 +1,6 @@
-use Rattle.std.proofs.Common.{ℕ, ◌≡◌, List, length, subst, rules}
-use Rattle.hall_match.specs.Matchings.{ArePairsWithin, IsMatching, IsLeast, IsDeficient}
-use Rattle.hall_match.specs.Joined.{AreJoined, OfPairs}
+use Rattle.std.proofs.Common.{ℕ, List, length, subst}
+use Rattle.hall_match.specs.Matchings.{IsMatching, IsLeast, IsDeficient}
+use Rattle.hall_match.specs.Joined.{AreJoined}
 use Rattle.hall_match.specs.Outcome.{IfMatched, IfDeficient}
 use Rattle.hall_match.proofs.JoinedLemmas.{joined_within, of_pairs, matched_of, deficient_of}
 use Rattle.hall_match.proofs.joined.match_by.Goals as goal

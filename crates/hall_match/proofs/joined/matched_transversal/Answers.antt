@@ -1,4 +1,4 @@
-use Rattle.std.proofs.Common.{ℕ, ◌≡◌, ◌∙◌, List, length, replicate, Some}
+use Rattle.std.proofs.Common.{ℕ, List, length, replicate, Some}
 use Rattle.hall_match.specs.Matchings.{IsMatching, IsLeast}
 use Rattle.hall_match.specs.Joined.{OfPairs}
 use Rattle.hall_match.proofs.JoinedLemmas.{least_ones, none_ones}

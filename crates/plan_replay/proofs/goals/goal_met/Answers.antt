@@ -1,10 +1,9 @@
-use Rattle.std.proofs.Common.{◌≡◌, ◌<◌, ℕ, List, Vec, Global, length, map, sym, subst}
+use Rattle.std.proofs.Common.{ℕ, List, length, map, sym, subst}
 use Rattle.std.proofs.lemmas.List.{length-map}
 use Rattle.std.proofs.lemmas.Option.{IfSome_then}
 use Rattle.hall_match.proofs.JoinedLemmas.{none_then, none_embeds}
 use Rattle.hall_match.specs.Joined.{IsTransversal, IsLeastTransversal, JoinsAt}
 use Rattle.arbac_policy.specs.Truth.{term_of}
-use Rattle.plan_replay.specs.GoalLists.{AreKnown}
 use Rattle.plan_replay.proofs.GoalLemmas.{MeetsOne, least_meets}
 use Rattle.plan_replay.proofs.goals.goal_met.Goals as goal
 
