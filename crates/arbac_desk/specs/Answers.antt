@@ -4,12 +4,14 @@ use Rattle.desk_ports.specs.Sinks.{Took, TookFront}
 use Rattle.arbac_desk.specs.declared.reply.Reply.{Reply}
 use Rattle.arbac_desk.specs.declared.reply.Reply.TheVariants.{Done, Unmet, Stopped, Malformed}
 
+-- the status of a reply
 abbrev pub status_of : Reply → ℕ
 status_of (Done text) = 0
 status_of (Unmet text) = 21
 status_of (Stopped text) = 21
 status_of (Malformed text) = 3
 
+-- the text of a reply
 abbrev pub text_of : Reply → List ℕ
 text_of (Done text) = text.items
 text_of (Unmet text) = text.items

@@ -8,6 +8,7 @@ use Rattle.cond_text.specs.declared.cond_error.CondError.TheVariants as conditio
 use Rattle.policy_text.specs.declared.run_error.RunError.{RunError}
 use Rattle.policy_text.specs.declared.run_error.RunError.TheVariants as runs
 
+-- the text of a fault of names and edges
 unfoldable pub order_text : OrderError → List ℕ
 order_text orders.NoRoles = codes "NoRoles"
 order_text (orders.TooManyRoles count) = codes "TooManyRoles " ++ decimal count
@@ -17,6 +18,7 @@ order_text (orders.EdgeOutOfRange place) = codes "EdgeOutOfRange " ++ decimal pl
 order_text (orders.Cycle place) = codes "Cycle " ++ decimal place
 order_text orders.Memory = codes "Memory"
 
+-- the text of a fault of a condition
 unfoldable pub cond_text : CondError → List ℕ
 cond_text (conditions.Unexpected place) = codes "Unexpected " ++ decimal place
 cond_text (conditions.UnknownRole place) = codes "UnknownRole " ++ decimal place

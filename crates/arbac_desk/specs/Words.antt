@@ -16,5 +16,6 @@ run_named (word ∷ []) = None
 run_named (word ∷ name ∷ []) = if bytes_eq (string_bytes word) (codes "replay") && is_file_name (string_bytes name) then Some (string_bytes name) else None
 run_named (word ∷ name ∷ more ∷ words) = None
 
+-- the usage line
 unfoldable pub usage_line : List ℕ
 usage_line = codes "usage: ask QUESTION | check QUESTION CERT | replay RUN | load QUESTION | import MEMBERS | report KIND | serve --connections N | make N\n"

@@ -56,7 +56,8 @@ peel_hit users needs hit j l f = record {
     user : (y : List ℕ) × (slice_get users (f.to j) ≡ Some y) × MeetsNeed (add_hit hit need.0) y
     user = f.each j (add_hit hit need.0) (get_change_same needs j (add_hit hit) need.0 need.1)
 
-    by_place : (i : ℕ) (x : Need) → slice_get needs i ≡ Some x → (j ≡ i) ⊎ (j ≡ i → ⊥) → (y : List ℕ) × (slice_get users (f.to i) ≡ Some y)
+    by_place : (i : ℕ) (x : Need) → slice_get needs i ≡ Some x → (j ≡ i) ⊎ (j ≡ i → ⊥) → (y : List ℕ)
+        × (slice_get users (f.to i) ≡ Some y)
         × MeetsNeed x y
     by_place i x at (inr else') = f.each i x (get_change_other needs j i (add_hit hit) else' ∙ at)
     by_place i x at (inl here) =

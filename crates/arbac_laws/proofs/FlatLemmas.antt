@@ -46,7 +46,8 @@ some_places P f at (y ∷ ys) (suc i) x e h =
     let n : at + suc i ≡ (at + 1) + i = omega arith in
     some_right P (f at y) (flat_places f (at + 1) ys) (some_places P f (at + 1) ys i x e (subst (λ k. Some_of P (f k x)) n h))
 
-pub places_some : {A B : Type 0} (P : B → Type 0) (f : ℕ → A → List B) (at : ℕ) (xs : List A) → Some_of P (flat_places f at xs) → (i : ℕ) × (x : A)
+pub places_some : {A B : Type 0} (P : B → Type 0) (f : ℕ → A → List B) (at : ℕ) (xs : List A) → Some_of P (flat_places f at xs) → (i : ℕ)
+    × (x : A)
     × (slice_get xs i ≡ Some x) × Some_of P (f (at + i) x)
 places_some P f at [] h = absurd h
 places_some P f at (y ∷ ys) h = by_side (some_cases P (f at y) (flat_places f (at + 1) ys) h) (places_some P f (at + 1) ys)

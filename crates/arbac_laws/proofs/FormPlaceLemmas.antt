@@ -123,7 +123,8 @@ one_more_stands {A} {B} f before o x xs s = record { apart = apart; each = each;
     apart (suc i) zero l m e = absurd (pushed_away here (to i) (sym e))
     apart (suc i) (suc j) l m e = ap suc (s.apart i j (omega arith) (omega arith) (pushed_apart here (to i) (to j) e))
 
-    each : (i : ℕ) (a : A) → slice_get (x ∷ xs) i ≡ Some a → (b : B) × (slice_get (insert_by before (f x) ys) (goes f before (x ∷ xs) i) ≡ Some b)
+    each : (i : ℕ) (a : A) → slice_get (x ∷ xs) i ≡ Some a → (b : B)
+        × (slice_get (insert_by before (f x) ys) (goes f before (x ∷ xs) i) ≡ Some b)
         × (f a ≡ b)
     each zero a is = (f x, get_spot before (f x) ys, ap f (sym (same_some x a is)))
     each (suc i) a is = let one = s.each i a is in (one.0, get_pushed before (f x) ys (to i) ∙ one.1, one.2)

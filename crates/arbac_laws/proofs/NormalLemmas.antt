@@ -117,7 +117,8 @@ least_below zero hits h l i = by_test (list_any (λ other. is_less other h) hits
 least_below (suc n) hits h l i = by_test (list_any (λ other. is_less other h) hits) refl (λ k m j. least_below n hits k m j)
   where
     by_test : (t : Bool) → list_any (λ other. is_less other h) hits ≡ t
-        → ((k : List ℕ) → count (λ j. is_less j k) hits ≤ n → Some_of (λ (v : List ℕ). v ≡ k) hits → Some_of (λ v. IsWithin v k) (least_hits hits))
+        → ((k : List ℕ) → count (λ j. is_less j k) hits ≤ n → Some_of (λ (v : List ℕ). v ≡ k) hits
+        → Some_of (λ v. IsWithin v k) (least_hits hits))
         → Some_of (λ k. IsWithin k h) (least_hits hits)
     by_test false e again = in_filter (λ k. IsWithin k h) (λ hit. not (list_any (λ other. is_less other hit) hits)) hits
         (one_some (λ k. IsWithin k h × (not (list_any (λ other. is_less other k) hits) ≡ true)) hits h i ((λ r m. m), rw e refl))

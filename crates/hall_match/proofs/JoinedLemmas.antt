@@ -120,7 +120,8 @@ pub none_embeds : {A B : Type 0} (R : A → B → Type 0) (xs : List A) (ys : Li
 none_embeds R xs ys none f = let places = to_places R xs ys f in none places.0 (places_transversal R xs ys places.0 places.1)
 
 -- what is known of a list of the pairs below these numbers
-pub of_pairs : (Joins : ℕ → ℕ → Type 0) (items places left count : ℕ) (pairs : List (ℕ × ℕ)) (P : ℕ → List (ℕ × ℕ) → Type 0) → items ≡ left
+pub of_pairs : (Joins : ℕ → ℕ → Type 0) (items places left count : ℕ) (pairs : List (ℕ × ℕ)) (P : ℕ → List (ℕ × ℕ) → Type 0)
+    → items ≡ left
     → places ≡ count
     → AreJoined Joins items places pairs → P items pairs → OfPairs Joins left count (P left)
 of_pairs Joins items places left count pairs P here there are holds = (

@@ -70,6 +70,7 @@ both_roles names path texts = do
   second ← role_named names path texts.1
   gives (first, second)
 
+-- the roles that the names stand for
 abbrev pub roles_in : List (List ℕ) → List ℕ → Option (List ℕ × List ℕ) → Outcome (ℕ × ℕ)
 roles_in names path found = do
   texts ← of_kind found path

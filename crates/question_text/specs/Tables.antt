@@ -158,6 +158,7 @@ a_goal_condition names path d = do
   text ← of_kind (as_str d) path
   a_condition names path text
 
+-- the goal, where it hasn't too many requirements
 abbrev pub unless_wide : Option ℕ → Outcome (Unit {0})
 unless_wide None = gives tt
 unless_wide (Some count) = fails (too_wide (codes "goal") count)

@@ -1,5 +1,6 @@
 -- Tests of whole sets, the least role from a number on, and which of two sets comes first.
-use Rattle.std.proofs.Common.{ℕ, ◌≡◌, ◌<◌, ◌≤◌, Bool, true, false, not, ◌||◌, ◌&&◌, cond, eqb, ltb, leb, List, [], ◌∷◌, refl, arith, ap, sym, ◌∙◌, subst, inl, inr, Some, None}
+use Rattle.std.proofs.Common.{ℕ, ◌≡◌, ◌<◌, ◌≤◌, Bool, true, false, not, ◌||◌, ◌&&◌, cond, eqb, ltb, leb, List, [], ◌∷◌, refl}
+use Rattle.std.proofs.Common.{arith, ap, sym, ◌∙◌, subst, inl, inr, Some, None}
 use Rattle.std.specs.Prelude.{◌⊎◌, filter, is_some, nat_lt, slice_get}
 use Rattle.std.specs.List.{list_any, list_all}
 use Rattle.std.proofs.lemmas.Bool.{ne_eqb, eq-eqb, eqb-true, false≢true}
@@ -16,7 +17,8 @@ pub list_all-none_fails : (p : ℕ → Bool) (xs : List ℕ) → filter (λ x. n
 list_all-none_fails p [] e = refl
 list_all-none_fails p (x ∷ xs) e = by_test (p x) (list_all-none_fails p xs) e
   where
-    by_test : (t : Bool) → (filter (λ x. not (p x)) xs ≡ [] → list_all p xs ≡ true) → cond (not t) (x ∷ filter (λ x. not (p x)) xs) (filter (λ x. not (p x)) xs) ≡ [] → (t && list_all p xs) ≡ true
+    by_test : (t : Bool) → (filter (λ x. not (p x)) xs ≡ [] → list_all p xs ≡ true)
+        → cond (not t) (x ∷ filter (λ x. not (p x)) xs) (filter (λ x. not (p x)) xs) ≡ [] → (t && list_all p xs) ≡ true
     by_test true rest e = rest e
     by_test false rest e = cc
 
@@ -24,7 +26,8 @@ pub none_fails : (p : ℕ → Bool) (xs : List ℕ) → list_all p xs ≡ true �
 none_fails p [] e = refl
 none_fails p (x ∷ xs) e = by_test (p x) (none_fails p xs) e
   where
-    by_test : (t : Bool) → (list_all p xs ≡ true → filter (λ x. not (p x)) xs ≡ []) → (t && list_all p xs) ≡ true → cond (not t) (x ∷ filter (λ x. not (p x)) xs) (filter (λ x. not (p x)) xs) ≡ []
+    by_test : (t : Bool) → (list_all p xs ≡ true → filter (λ x. not (p x)) xs ≡ []) → (t && list_all p xs) ≡ true
+        → cond (not t) (x ∷ filter (λ x. not (p x)) xs) (filter (λ x. not (p x)) xs) ≡ []
     by_test true rest e = rest e
     by_test false rest e = cc
 
@@ -33,7 +36,8 @@ pub list_any-none_passes : (p : ℕ → Bool) (xs : List ℕ) → filter p xs �
 list_any-none_passes p [] e = refl
 list_any-none_passes p (x ∷ xs) e = by_test (p x) (list_any-none_passes p xs) e
   where
-    by_test : (t : Bool) → (filter p xs ≡ [] → list_any p xs ≡ false) → cond t (x ∷ filter p xs) (filter p xs) ≡ [] → (t || list_any p xs) ≡ false
+    by_test : (t : Bool) → (filter p xs ≡ [] → list_any p xs ≡ false) → cond t (x ∷ filter p xs) (filter p xs) ≡ []
+        → (t || list_any p xs) ≡ false
     by_test true rest e = cc
     by_test false rest e = rest e
 
@@ -41,16 +45,19 @@ pub none_passes : (p : ℕ → Bool) (xs : List ℕ) → list_any p xs ≡ false
 none_passes p [] e = refl
 none_passes p (x ∷ xs) e = by_test (p x) (none_passes p xs) e
   where
-    by_test : (t : Bool) → (list_any p xs ≡ false → filter p xs ≡ []) → (t || list_any p xs) ≡ false → cond t (x ∷ filter p xs) (filter p xs) ≡ []
+    by_test : (t : Bool) → (list_any p xs ≡ false → filter p xs ≡ []) → (t || list_any p xs) ≡ false
+        → cond t (x ∷ filter p xs) (filter p xs) ≡ []
     by_test true rest e = cc
     by_test false rest e = rest e
 
 -- a test that passes where no item fails is the test of all
-pub is_list_all : (p : ℕ → Bool) (xs : List ℕ) (t : Bool) → (t ≡ true → filter (λ x. not (p x)) xs ≡ []) → (filter (λ x. not (p x)) xs ≡ [] → t ≡ true) → t ≡ list_all p xs
+pub is_list_all : (p : ℕ → Bool) (xs : List ℕ) (t : Bool) → (t ≡ true → filter (λ x. not (p x)) xs ≡ [])
+    → (filter (λ x. not (p x)) xs ≡ [] → t ≡ true) → t ≡ list_all p xs
 is_list_all p xs t to from = same_test t (list_all p xs) (λ h. list_all-none_fails p xs (to h)) (λ h. from (none_fails p xs h))
 
 -- a test that passes where no item does is the opposite of the test of some
-pub is_list_any : (p : ℕ → Bool) (xs : List ℕ) (t : Bool) → (t ≡ true → filter p xs ≡ []) → (filter p xs ≡ [] → t ≡ true) → not t ≡ list_any p xs
+pub is_list_any : (p : ℕ → Bool) (xs : List ℕ) (t : Bool) → (t ≡ true → filter p xs ≡ []) → (filter p xs ≡ [] → t ≡ true)
+    → not t ≡ list_any p xs
 is_list_any p xs true to from = sym (list_any-none_passes p xs (to refl))
 is_list_any p xs false to from = by_some (list_any p xs) refl
   where
@@ -68,7 +75,8 @@ pub first_from_is : (xs : List ℕ) (from role : ℕ) → Rises xs → IsFirstFr
 first_from_is [] from role rises first = absurd (false≢true first.there)
 first_from_is (x ∷ xs) from role rises first = by_head (leb from x) refl (ltb x role) refl (first_from_is xs from role rises.1)
   where
-    by_head : (s : Bool) → leb from x ≡ s → (t : Bool) → ltb x role ≡ t → (IsFirstFrom xs from role → first_from xs from ≡ Some role) → cond s (Some x) (first_from xs from) ≡ Some role
+    by_head : (s : Bool) → leb from x ≡ s → (t : Bool) → ltb x role ≡ t → (IsFirstFrom xs from role → first_from xs from ≡ Some role)
+        → cond s (Some x) (first_from xs from) ≡ Some role
     by_head true a true b rest =
         let reached : from ≤ x = grind (arith, nat_tests) in
         let less : x < role = grind (arith, nat_tests) in
@@ -77,7 +85,8 @@ first_from_is (x ∷ xs) from role rises first = by_head (leb from x) refl (ltb 
       where
         at_head : (t : Bool) → eqb x role ≡ t → x ≡ role
         at_head true e = eqb-true x role e
-        at_head false e = let below : role < x = grind (arith, nat_tests) in absurd (false≢true (sym (has_role-below role x xs below rises.0) ∙ first.there))
+        at_head false e = let below : role < x = grind (arith, nat_tests) in
+            absurd (false≢true (sym (has_role-below role x xs below rises.0) ∙ first.there))
     by_head false a true b rest =
         let less : x < role = grind (arith, nat_tests) in
         rest record {
@@ -94,7 +103,8 @@ pub first_from_none : (xs : List ℕ) (from : ℕ) → ((role : ℕ) → from �
 first_from_none [] from h = refl
 first_from_none (x ∷ xs) from h = by_head (leb from x) refl (first_from_none xs from)
   where
-    by_head : (s : Bool) → leb from x ≡ s → (((role : ℕ) → from ≤ role → has_role xs role ≡ false) → first_from xs from ≡ None) → cond s (Some x) (first_from xs from) ≡ None
+    by_head : (s : Bool) → leb from x ≡ s → (((role : ℕ) → from ≤ role → has_role xs role ≡ false) → first_from xs from ≡ None)
+        → cond s (Some x) (first_from xs from) ≡ None
     by_head true a rest = let reached : from ≤ x = grind (arith, nat_tests) in absurd (false≢true (sym (h x reached) ∙ rw (eq-eqb x x refl) refl))
     by_head false a rest = rest (λ role l. by_or (eqb x role) (has_role xs role) (h role l))
       where
@@ -128,7 +138,8 @@ without_role-head x xs rises =
         kept false = refl
 
 -- the first role, and the list without it
-pub taken_head : (xs : List ℕ) (role : ℕ) (rest : List ℕ) → Rises xs → slice_get xs 0 ≡ Some role → rest ≡ without_role xs role → xs ≡ role ∷ rest
+pub taken_head : (xs : List ℕ) (role : ℕ) (rest : List ℕ) → Rises xs → slice_get xs 0 ≡ Some role → rest ≡ without_role xs role
+    → xs ≡ role ∷ rest
 taken_head [] role rest rises at e = cc
 taken_head (x ∷ xs) role rest rises at e =
     let same : x ≡ role = cc in
@@ -159,7 +170,8 @@ before_where_first_has (x ∷ xs) (y ∷ ys) role rx ry agree h n = by_order (lt
         by_test false e = grind (arith, nat_tests)
 
     by_order : (s : Bool) → ltb x y ≡ s → (t : Bool) → ltb y x ≡ t
-        → (((q : ℕ) → q < role → has_role xs q ≡ has_role ys q) → has_role xs role ≡ true → has_role ys role ≡ false → set_before xs ys ≡ is_some (first_from ys role))
+        → (((q : ℕ) → q < role → has_role xs q ≡ has_role ys q) → has_role xs role ≡ true → has_role ys role ≡ false
+        → set_before xs ys ≡ is_some (first_from ys role))
         → (s || (not t && set_before xs ys)) ≡ is_some (cond (leb role y) (Some y) (first_from ys role))
     by_order true a t b rest = by_reach (leb role y) refl
       where
@@ -198,7 +210,8 @@ before_where_first_has (x ∷ xs) (y ∷ ys) role rx ry agree h n = by_order (lt
                 by_head : (t : Bool) → eqb x q ≡ t → (eqb x q || has_role xs q) ≡ (eqb y q || has_role ys q) → has_role xs q ≡ has_role ys q
                 by_head true e both =
                     let at : x ≡ q = eqb-true x q e in
-                    subst (λ v. has_role xs v ≡ has_role ys v) at (has_role-above x xs rx.0 ∙ sym (subst (λ v. has_role ys v ≡ false) (sym same) (has_role-above y ys ry.0)))
+                    subst (λ v. has_role xs v ≡ has_role ys v) at
+                    (has_role-above x xs rx.0 ∙ sym (subst (λ v. has_role ys v ≡ false) (sym same) (has_role-above y ys ry.0)))
                 by_head false e both =
                     let e' : eqb y q ≡ false = subst (λ v. eqb v q ≡ false) same e in
                     rw (e, e') at both
@@ -210,7 +223,8 @@ before_or_behind xs ys apart = by_total (set_order.total xs ys)
     by_total : (set_before xs ys ≡ true) ⊎ ((xs ≡ ys) ⊎ (set_before ys xs ≡ true)) → set_before xs ys ≡ not (set_before ys xs)
     by_total (inl h) = let no : set_before ys xs ≡ false = not_false (set_before ys xs) (λ k. not_both set_before set_order xs ys h k) in rw (h, no) refl
     by_total (inr (inl e)) = absurd (apart e)
-    by_total (inr (inr k)) = let no : set_before xs ys ≡ false = not_false (set_before xs ys) (λ h. not_both set_before set_order xs ys h k) in rw (k, no) refl
+    by_total (inr (inr k)) =
+        let no : set_before xs ys ≡ false = not_false (set_before xs ys) (λ h. not_both set_before set_order xs ys h k) in rw (k, no) refl
 
 pub before_where_second_has : (xs ys : List ℕ) (role : ℕ) → Rises xs → Rises ys → ((q : ℕ) → q < role → has_role xs q ≡ has_role ys q)
     → has_role xs role ≡ false → has_role ys role ≡ true → set_before xs ys ≡ not (is_some (first_from xs role))

@@ -1,5 +1,6 @@
 -- Masks and the sets that they stand for.
-use Rattle.std.proofs.Common.{ℕ, ◌≡◌, ◌+◌, ◌-◌, ◌*◌, ◌/◌, ◌%◌, ◌^◌, ◌<◌, ◌≤◌, Bool, true, false, not, ◌||◌, ◌&&◌, cond, eqb, ltb, List, [], ◌∷◌, length, refl, arith, zero, suc, ap, sym, ◌∙◌, inl, inr, subst, min, max}
+use Rattle.std.proofs.Common.{ℕ, ◌≡◌, ◌+◌, ◌-◌, ◌*◌, ◌/◌, ◌%◌, ◌^◌, ◌<◌, ◌≤◌, Bool, true, false, not, ◌||◌}
+use Rattle.std.proofs.Common.{◌&&◌, cond, eqb, ltb, List, [], ◌∷◌, length, refl, arith, zero, suc, ap, sym, ◌∙◌, inl, inr, subst, min, max}
 use Rattle.std.specs.Prelude.{◌⊎◌, filter, bit_and, bit_or, bit_xor, nat_eq, ◌==◌}
 use Rattle.std.specs.Bool.{Decides}
 use Rattle.std.specs.Cmp.Lexicographic.{pointwise}
@@ -10,13 +11,15 @@ use Rattle.std.proofs.lemmas.Bool.{ne_eqb, eq-eqb, eqb-true, false≢true}
 use Rattle.std.proofs.lemmas.Bool.Decides.{nat_tests}
 use Rattle.std.proofs.Math.Nat.{zero-mul, one-mul, pow-suc}
 use Rattle.std.proofs.lemmas.Nat.{or_lt, xor_lt, and_le_l, pow_below, pow_pos, shr-shr, shr_le, ones_cat, div-add-mod', div_below, mod_below}
-use Rattle.std.proofs.lemmas.Nat.Bits.{and_pow, bit_at_lowest, bit_at-suc, bit_at-trailing_zeros, bit_at_and, bit_at_or, bit_at_xor, bit_at-zero, bit_at_above, bit_at_not, bit_at-pow_same, bit_at-pow_other}
+use Rattle.std.proofs.lemmas.Nat.Bits.{and_pow, bit_at_lowest, bit_at-suc, bit_at-trailing_zeros, bit_at_and, bit_at_or, bit_at_xor, bit_at-zero}
+use Rattle.std.proofs.lemmas.Nat.Bits.{bit_at_above, bit_at_not, bit_at-pow_same, bit_at-pow_other}
 use Rattle.role_order.specs.declared.TheConstants.{MOST_ROLES, MASK_BITS}
 use Rattle.role_order.specs.Reach.{count_up}
 use Rattle.role_order.specs.Roles.{has_role, with_role, without_role, less_roles, common_roles, join_roles, Rises, IsFirstFrom, IsRoleSet}
 use Rattle.role_order.specs.Masks.{has_bit, is_held, held_roles, low_of, high_of, AreMasks, IsNextBit}
 use Rattle.role_order.specs.MasksBack.{bit_cases, has_bit_of_one, has_bit_of_zero, has_role-held_roles, low_back, high_back}
-use Rattle.role_order.proofs.SetLemmas.{has_role-filter, has_role-with_role, has_role-join_roles, rises-with_role, rises-join_roles, rises-filter, rises-count_up, same_set}
+use Rattle.role_order.proofs.SetLemmas.{has_role-filter, has_role-with_role, has_role-join_roles, rises-with_role, rises-join_roles, rises-filter}
+use Rattle.role_order.proofs.SetLemmas.{rises-count_up, same_set}
 use Rattle.list_words.proofs.TestLemmas.{same_test}
 
 pub bit_of_true : (mask k : ℕ) → has_bit mask k ≡ true → bit_at mask k ≡ 1
@@ -42,7 +45,8 @@ pub has_bit-or : (a b k : ℕ) → has_bit (bit_or a b) k ≡ (has_bit a k || ha
 unfolding has_bit
 has_bit-or a b k = rw (bit_at_or a b k) (by_cases (bit_cases a k) (bit_cases b k))
   where
-    by_cases : (bit_at a k ≡ 0) ⊎ (bit_at a k ≡ 1) → (bit_at b k ≡ 0) ⊎ (bit_at b k ≡ 1) → eqb (max (bit_at a k) (bit_at b k)) 1 ≡ (eqb (bit_at a k) 1 || eqb (bit_at b k) 1)
+    by_cases : (bit_at a k ≡ 0) ⊎ (bit_at a k ≡ 1) → (bit_at b k ≡ 0) ⊎ (bit_at b k ≡ 1)
+        → eqb (max (bit_at a k) (bit_at b k)) 1 ≡ (eqb (bit_at a k) 1 || eqb (bit_at b k) 1)
     by_cases (inl x) (inl y) = rw (x, y) refl
     by_cases (inl x) (inr y) = rw (x, y) refl
     by_cases (inr x) (inl y) = rw (x, y) refl
@@ -52,7 +56,8 @@ pub has_bit-and : (a b k : ℕ) → has_bit (bit_and a b) k ≡ (has_bit a k && 
 unfolding has_bit
 has_bit-and a b k = rw (bit_at_and a b k) (by_cases (bit_cases a k) (bit_cases b k))
   where
-    by_cases : (bit_at a k ≡ 0) ⊎ (bit_at a k ≡ 1) → (bit_at b k ≡ 0) ⊎ (bit_at b k ≡ 1) → eqb (min (bit_at a k) (bit_at b k)) 1 ≡ (eqb (bit_at a k) 1 && eqb (bit_at b k) 1)
+    by_cases : (bit_at a k ≡ 0) ⊎ (bit_at a k ≡ 1) → (bit_at b k ≡ 0) ⊎ (bit_at b k ≡ 1)
+        → eqb (min (bit_at a k) (bit_at b k)) 1 ≡ (eqb (bit_at a k) 1 && eqb (bit_at b k) 1)
     by_cases (inl x) (inl y) = rw (x, y) refl
     by_cases (inl x) (inr y) = rw (x, y) refl
     by_cases (inr x) (inl y) = rw (x, y) refl
@@ -121,7 +126,8 @@ next_of_left mask from fits more = record {
     left : ℕ
     left = mask / 2 ^ from
 
-    lowest : (trailing_zeros w128 left < MASK_BITS) × (bit_at left (trailing_zeros w128 left) ≡ 1) × ((i : ℕ) → i < trailing_zeros w128 left → bit_at left i ≡ 0)
+    lowest : (trailing_zeros w128 left < MASK_BITS) × (bit_at left (trailing_zeros w128 left) ≡ 1)
+        × ((i : ℕ) → i < trailing_zeros w128 left → bit_at left i ≡ 0)
     lowest = bit_at-trailing_zeros w128 left more (omega (arith, shr_le mask from))
 
     place : ℕ
@@ -168,7 +174,8 @@ has_role-masks low high masks q = by_order (ltb q MOST_ROLES) refl
         has_role-held_roles_past MOST_ROLES low high q past ∙ sym (is_held_past low high q masks past)
 
 -- the masks of a rising list are those with just its bits
-pub set_of_masks : (low high : ℕ) (set : List ℕ) → AreMasks low high → Rises set → ((q : ℕ) → is_held low high q ≡ has_role set q) → held_roles MOST_ROLES low high ≡ set
+pub set_of_masks : (low high : ℕ) (set : List ℕ) → AreMasks low high → Rises set → ((q : ℕ) → is_held low high q ≡ has_role set q)
+    → held_roles MOST_ROLES low high ≡ set
 set_of_masks low high set masks rises each =
     same_set (held_roles MOST_ROLES low high) set (rises-held_roles MOST_ROLES low high) rises (λ q. has_role-masks low high masks q ∙ each q)
 
@@ -198,7 +205,10 @@ pub no_masks : AreMasks 0 0
 no_masks = record { low_fits = pow_pos MASK_BITS; high_fits = pow_pos (MOST_ROLES - MASK_BITS) }
 
 none_held : (q : ℕ) → is_held 0 0 q ≡ false
-none_held q = elim (ltb q MASK_BITS) as (λ t. cond t (has_bit 0 q) (has_bit 0 (q - MASK_BITS)) ≡ false) [ true ↦ no_bit q | false ↦ no_bit (q - MASK_BITS) ]
+none_held q = elim (ltb q MASK_BITS) as (λ t. cond t (has_bit 0 q) (has_bit 0 (q - MASK_BITS)) ≡ false) [
+  | true ↦ no_bit q
+  | false ↦ no_bit (q - MASK_BITS)
+]
 
 pub set_of_none : held_roles MOST_ROLES 0 0 ≡ []
 set_of_none = set_of_masks 0 0 [] no_masks tt none_held
@@ -207,7 +217,8 @@ pub low_with : (low high r : ℕ) → AreMasks low high → r < MASK_BITS → Ar
 low_with low high r masks l = record { low_fits = or_lt MASK_BITS low (2 ^ r) masks.low_fits (pow_below r MASK_BITS l); high_fits = masks.high_fits }
 
 pub high_with : (low high r : ℕ) → AreMasks low high → r < (MOST_ROLES - MASK_BITS) → AreMasks low (bit_or high (2 ^ r))
-high_with low high r masks l = record { low_fits = masks.low_fits; high_fits = or_lt (MOST_ROLES - MASK_BITS) high (2 ^ r) masks.high_fits (pow_below r (MOST_ROLES - MASK_BITS) l) }
+high_with low high r masks l =
+    record { low_fits = masks.low_fits; high_fits = or_lt (MOST_ROLES - MASK_BITS) high (2 ^ r) masks.high_fits (pow_below r (MOST_ROLES - MASK_BITS) l) }
 
 turned_or : (a b : Bool) → (a || b) ≡ (b || a)
 turned_or true true = refl
@@ -220,7 +231,8 @@ and_true true = refl
 and_true false = refl
 
 turned_test : (a b : ℕ) → eqb a b ≡ eqb b a
-turned_test a b = same_test (eqb a b) (eqb b a) (λ s. let d : a ≡ b = eqb-true a b s in eq-eqb b a (sym d)) (λ s. let d : b ≡ a = eqb-true b a s in eq-eqb a b (sym d))
+turned_test a b = same_test (eqb a b) (eqb b a) (λ s. let d : a ≡ b = eqb-true a b s in eq-eqb b a (sym d)) (λ s. let d : b ≡ a = eqb-true b a s in
+    eq-eqb a b (sym d))
 
 -- two roles of the second mask are the same where their places in it are
 same_behind : (r q : ℕ) → MASK_BITS ≤ r → MASK_BITS ≤ q → eqb (r - MASK_BITS) (q - MASK_BITS) ≡ eqb r q
@@ -230,7 +242,8 @@ same_behind r q l m =
     (λ s. let d : r ≡ q = eqb-true r q s in eq-eqb (r - MASK_BITS) (q - MASK_BITS) (ap (λ n. n - MASK_BITS) d))
 
 -- a role below the first mask's end, added
-pub set_with_low : (low high r : ℕ) → AreMasks low high → r < MASK_BITS → held_roles MOST_ROLES (bit_or low (2 ^ r)) high ≡ with_role (held_roles MOST_ROLES low high) r
+pub set_with_low : (low high r : ℕ) → AreMasks low high → r < MASK_BITS → held_roles MOST_ROLES (bit_or low (2 ^ r)) high ≡ with_role
+    (held_roles MOST_ROLES low high) r
 set_with_low low high r masks l =
     set_of_masks (bit_or low (2 ^ r)) high (with_role set r) (low_with low high r masks l) (rises-with_role set r (rises-held_roles MOST_ROLES low high))
     (λ q. held q (ltb q MASK_BITS) refl ∙ ap (λ t. (r == q) || t) (sym (has_role-masks low high masks q)) ∙ sym (has_role-with_role set r q))
@@ -238,20 +251,25 @@ set_with_low low high r masks l =
     set : List ℕ
     set = held_roles MOST_ROLES low high
 
-    held : (q : ℕ) (t : Bool) → ltb q MASK_BITS ≡ t → cond t (has_bit (bit_or low (2 ^ r)) q) (has_bit high (q - MASK_BITS)) ≡ ((r == q) || cond t (has_bit low q) (has_bit high (q - MASK_BITS)))
+    held : (q : ℕ) (t : Bool) → ltb q MASK_BITS ≡ t
+        → cond t (has_bit (bit_or low (2 ^ r)) q) (has_bit high (q - MASK_BITS)) ≡ ((r == q) || cond t (has_bit low q) (has_bit high (q - MASK_BITS)))
     held q true e = has_bit-or low (2 ^ r) q ∙ ap (λ t. has_bit low q || t) (has_bit-pow r q) ∙ turned_or (has_bit low q) (eqb r q)
     held q false e = let other : eqb r q ≡ false = ne_eqb r q (λ s. absurd (grind (arith, nat_tests))) in rw other refl
 
 -- a role from the second mask's begin on, added
-pub set_with_high : (low high r : ℕ) → AreMasks low high → MASK_BITS ≤ r → r < MOST_ROLES → held_roles MOST_ROLES low (bit_or high (2 ^ (r - MASK_BITS))) ≡ with_role (held_roles MOST_ROLES low high) r
+pub set_with_high : (low high r : ℕ) → AreMasks low high → MASK_BITS ≤ r → r < MOST_ROLES
+    → held_roles MOST_ROLES low (bit_or high (2 ^ (r - MASK_BITS))) ≡ with_role (held_roles MOST_ROLES low high) r
 set_with_high low high r masks l m =
-    set_of_masks low (bit_or high (2 ^ (r - MASK_BITS))) (with_role set r) (high_with low high (r - MASK_BITS) masks (omega arith)) (rises-with_role set r (rises-held_roles MOST_ROLES low high))
+    set_of_masks low (bit_or high (2 ^ (r - MASK_BITS))) (with_role set r) (high_with low high (r - MASK_BITS) masks (omega arith))
+    (rises-with_role set r (rises-held_roles MOST_ROLES low high))
     (λ q. held q (ltb q MASK_BITS) refl ∙ ap (λ t. (r == q) || t) (sym (has_role-masks low high masks q)) ∙ sym (has_role-with_role set r q))
   where
     set : List ℕ
     set = held_roles MOST_ROLES low high
 
-    held : (q : ℕ) (t : Bool) → ltb q MASK_BITS ≡ t → cond t (has_bit low q) (has_bit (bit_or high (2 ^ (r - MASK_BITS))) (q - MASK_BITS)) ≡ ((r == q) || cond t (has_bit low q) (has_bit high (q - MASK_BITS)))
+    held : (q : ℕ) (t : Bool) → ltb q MASK_BITS ≡ t
+        → cond t (has_bit low q) (has_bit (bit_or high (2 ^ (r - MASK_BITS))) (q - MASK_BITS)) ≡ ((r == q) || cond t (has_bit low q)
+        (has_bit high (q - MASK_BITS)))
     held q true e = let other : eqb r q ≡ false = ne_eqb r q (λ s. absurd (grind (arith, nat_tests))) in rw other refl
     held q false e =
         has_bit-or high (2 ^ (r - MASK_BITS)) (q - MASK_BITS)
@@ -261,12 +279,15 @@ set_with_high low high r masks l m =
 -- ---- the roles of one or the other, of both, and of the first alone
 
 pub joined_masks : (a b c d : ℕ) → AreMasks a b → AreMasks c d → AreMasks (bit_or a c) (bit_or b d)
-joined_masks a b c d m n = record { low_fits = or_lt MASK_BITS a c m.low_fits n.low_fits; high_fits = or_lt (MOST_ROLES - MASK_BITS) b d m.high_fits n.high_fits }
+joined_masks a b c d m n =
+    record { low_fits = or_lt MASK_BITS a c m.low_fits n.low_fits; high_fits = or_lt (MOST_ROLES - MASK_BITS) b d m.high_fits n.high_fits }
 
-pub joined_set : (a b c d : ℕ) → AreMasks a b → AreMasks c d → held_roles MOST_ROLES (bit_or a c) (bit_or b d) ≡ join_roles (held_roles MOST_ROLES a b) (held_roles MOST_ROLES c d)
+pub joined_set : (a b c d : ℕ) → AreMasks a b → AreMasks c d → held_roles MOST_ROLES (bit_or a c) (bit_or b d) ≡ join_roles
+    (held_roles MOST_ROLES a b) (held_roles MOST_ROLES c d)
 joined_set a b c d m n =
     set_of_masks (bit_or a c) (bit_or b d) (join_roles xs ys) (joined_masks a b c d m n) (rises-join_roles xs ys (rises-held_roles MOST_ROLES c d))
-    (λ q. held q ∙ ap (λ t. t || is_held c d q) (sym (has_role-masks a b m q)) ∙ ap (λ t. has_role xs q || t) (sym (has_role-masks c d n q)) ∙ sym (has_role-join_roles xs ys q))
+    (λ q. held q ∙ ap (λ t. t || is_held c d q) (sym (has_role-masks a b m q)) ∙ ap (λ t. has_role xs q || t) (sym (has_role-masks c d n q))
+    ∙ sym (has_role-join_roles xs ys q))
   where
     xs : List ℕ
     xs = held_roles MOST_ROLES a b
@@ -276,7 +297,9 @@ joined_set a b c d m n =
 
     held : (q : ℕ) → is_held (bit_or a c) (bit_or b d) q ≡ (is_held a b q || is_held c d q)
     held q =
-        elim (ltb q MASK_BITS) as (λ t. cond t (has_bit (bit_or a c) q) (has_bit (bit_or b d) (q - MASK_BITS)) ≡ (cond t (has_bit a q) (has_bit b (q - MASK_BITS)) || cond t (has_bit c q) (has_bit d (q - MASK_BITS))))
+        elim (ltb q MASK_BITS) as
+        (λ t. cond t (has_bit (bit_or a c) q) (has_bit (bit_or b d) (q - MASK_BITS)) ≡ (cond t (has_bit a q) (has_bit b (q - MASK_BITS)) || cond t
+        (has_bit c q) (has_bit d (q - MASK_BITS))))
         [ true ↦ has_bit-or a c q | false ↦ has_bit-or b d (q - MASK_BITS) ]
 
 -- ---- both, the first alone, and those that differ
@@ -299,7 +322,9 @@ common_set a b c d m n =
 
     held : (q : ℕ) → is_held (bit_and a c) (bit_and b d) q ≡ (is_held a b q && is_held c d q)
     held q =
-        elim (ltb q MASK_BITS) as (λ t. cond t (has_bit (bit_and a c) q) (has_bit (bit_and b d) (q - MASK_BITS)) ≡ (cond t (has_bit a q) (has_bit b (q - MASK_BITS)) && cond t (has_bit c q) (has_bit d (q - MASK_BITS))))
+        elim (ltb q MASK_BITS) as
+        (λ t. cond t (has_bit (bit_and a c) q)
+        (has_bit (bit_and b d) (q - MASK_BITS)) ≡ (cond t (has_bit a q) (has_bit b (q - MASK_BITS)) && cond t (has_bit c q) (has_bit d (q - MASK_BITS))))
         [ true ↦ has_bit-and a c q | false ↦ has_bit-and b d (q - MASK_BITS) ]
 
 -- `a & !c` has the bits of the first that the second lacks
@@ -345,8 +370,10 @@ lesser_set a b c d m n =
 pub set_without_low : (low high r : ℕ) → AreMasks low high → r < MASK_BITS
     → held_roles MOST_ROLES (bit_and low (bit_not w128 (2 ^ r))) high ≡ without_role (held_roles MOST_ROLES low high) r
 set_without_low low high r masks l =
-    set_of_masks (bit_and low (bit_not w128 (2 ^ r))) high (without_role set r) fits (rises-filter (λ x. not (x == r)) set (rises-held_roles MOST_ROLES low high))
-    (λ q. held q (ltb q MASK_BITS) refl ∙ ap (λ t. t && not (q == r)) (sym (has_role-masks low high masks q)) ∙ sym (has_role-filter (λ x. not (x == r)) set q))
+    set_of_masks (bit_and low (bit_not w128 (2 ^ r))) high (without_role set r) fits
+    (rises-filter (λ x. not (x == r)) set (rises-held_roles MOST_ROLES low high))
+    (λ q. held q (ltb q MASK_BITS) refl ∙ ap (λ t. t && not (q == r)) (sym (has_role-masks low high masks q))
+    ∙ sym (has_role-filter (λ x. not (x == r)) set q))
   where
     set : List ℕ
     set = held_roles MOST_ROLES low high
@@ -355,17 +382,21 @@ set_without_low low high r masks l =
     fits = record { low_fits = omega (arith, masks.low_fits, and_le_l low (bit_not w128 (2 ^ r))); high_fits = masks.high_fits }
 
     held : (q : ℕ) (t : Bool) → ltb q MASK_BITS ≡ t
-        → cond t (has_bit (bit_and low (bit_not w128 (2 ^ r))) q) (has_bit high (q - MASK_BITS)) ≡ (cond t (has_bit low q) (has_bit high (q - MASK_BITS)) && not (q == r))
+        → cond t (has_bit (bit_and low (bit_not w128 (2 ^ r))) q)
+        (has_bit high (q - MASK_BITS)) ≡ (cond t (has_bit low q) (has_bit high (q - MASK_BITS)) && not (q == r))
     held q true e =
         has_bit-less low (2 ^ r) q masks.low_fits (pow_below r MASK_BITS l) ∙ ap (λ t. has_bit low q && not t) (has_bit-pow r q ∙ turned_test r q)
-    held q false e = let other : eqb q r ≡ false = ne_eqb q r (λ s. absurd (grind (arith, nat_tests))) in rw other (sym (and_true (has_bit high (q - MASK_BITS))))
+    held q false e = let other : eqb q r ≡ false = ne_eqb q r (λ s. absurd (grind (arith, nat_tests))) in
+        rw other (sym (and_true (has_bit high (q - MASK_BITS))))
 
 -- a role from the second mask's begin on, taken out
 pub set_without_high : (low high r : ℕ) → AreMasks low high → MASK_BITS ≤ r → r < 2 * MASK_BITS
     → held_roles MOST_ROLES low (bit_and high (bit_not w128 (2 ^ (r - MASK_BITS)))) ≡ without_role (held_roles MOST_ROLES low high) r
 set_without_high low high r masks l m =
-    set_of_masks low (bit_and high (bit_not w128 (2 ^ (r - MASK_BITS)))) (without_role set r) fits (rises-filter (λ x. not (x == r)) set (rises-held_roles MOST_ROLES low high))
-    (λ q. held q (ltb q MASK_BITS) refl ∙ ap (λ t. t && not (q == r)) (sym (has_role-masks low high masks q)) ∙ sym (has_role-filter (λ x. not (x == r)) set q))
+    set_of_masks low (bit_and high (bit_not w128 (2 ^ (r - MASK_BITS)))) (without_role set r) fits
+    (rises-filter (λ x. not (x == r)) set (rises-held_roles MOST_ROLES low high))
+    (λ q. held q (ltb q MASK_BITS) refl ∙ ap (λ t. t && not (q == r)) (sym (has_role-masks low high masks q))
+    ∙ sym (has_role-filter (λ x. not (x == r)) set q))
   where
     set : List ℕ
     set = held_roles MOST_ROLES low high
@@ -374,7 +405,8 @@ set_without_high low high r masks l m =
     fits = record { low_fits = masks.low_fits; high_fits = omega (arith, masks.high_fits, and_le_l high (bit_not w128 (2 ^ (r - MASK_BITS)))) }
 
     held : (q : ℕ) (t : Bool) → ltb q MASK_BITS ≡ t
-        → cond t (has_bit low q) (has_bit (bit_and high (bit_not w128 (2 ^ (r - MASK_BITS)))) (q - MASK_BITS)) ≡ (cond t (has_bit low q) (has_bit high (q - MASK_BITS)) && not (q == r))
+        → cond t (has_bit low q) (has_bit (bit_and high (bit_not w128 (2 ^ (r - MASK_BITS)))) (q - MASK_BITS)) ≡ (cond t (has_bit low q)
+        (has_bit high (q - MASK_BITS)) && not (q == r))
     held q true e = let other : eqb q r ≡ false = ne_eqb q r (λ s. absurd (grind (arith, nat_tests))) in rw other (sym (and_true (has_bit low q)))
     held q false e =
         let from : MASK_BITS ≤ q = grind (arith, nat_tests) in
@@ -382,7 +414,8 @@ set_without_high low high r masks l m =
         ∙ ap (λ t. has_bit high (q - MASK_BITS) && not t) (has_bit-pow (r - MASK_BITS) (q - MASK_BITS) ∙ same_behind r q l from ∙ turned_test r q)
 
 -- a number that is no role, taken out
-pub set_without_none : (low high r : ℕ) → AreMasks low high → 2 * MASK_BITS ≤ r → held_roles MOST_ROLES low high ≡ without_role (held_roles MOST_ROLES low high) r
+pub set_without_none : (low high r : ℕ) → AreMasks low high → 2 * MASK_BITS ≤ r
+    → held_roles MOST_ROLES low high ≡ without_role (held_roles MOST_ROLES low high) r
 set_without_none low high r masks l =
     set_of_masks low high (without_role set r) masks (rises-filter (λ x. not (x == r)) set (rises-held_roles MOST_ROLES low high))
     (λ q. held q (eqb q r) refl ∙ ap (λ t. t && not (q == r)) (sym (has_role-masks low high masks q)) ∙ sym (has_role-filter (λ x. not (x == r)) set q))
@@ -398,7 +431,8 @@ set_without_none low high r masks l =
 
 -- the roles that one has and the other lacks
 pub differing_masks : (a b c d : ℕ) → AreMasks a b → AreMasks c d → AreMasks (bit_xor a c) (bit_xor b d)
-differing_masks a b c d m n = record { low_fits = xor_lt MASK_BITS a c m.low_fits n.low_fits; high_fits = xor_lt (MOST_ROLES - MASK_BITS) b d m.high_fits n.high_fits }
+differing_masks a b c d m n =
+    record { low_fits = xor_lt MASK_BITS a c m.low_fits n.low_fits; high_fits = xor_lt (MOST_ROLES - MASK_BITS) b d m.high_fits n.high_fits }
 
 pub has_role-differing : (a b c d : ℕ) → AreMasks a b → AreMasks c d → (q : ℕ)
     → has_role (held_roles MOST_ROLES (bit_xor a c) (bit_xor b d)) q
@@ -428,7 +462,8 @@ pub set_of_masks_none : (low high : ℕ) → low ≡ 0 → high ≡ 0 → held_r
 set_of_masks_none low high e f = rw (e, f) set_of_none
 
 -- both masks are equal where the lists are
-pub equal_masks : (a b c d : ℕ) → AreMasks a b → AreMasks c d → (t : Bool) → (t ≡ true → (a ≡ c) × (b ≡ d)) → ((a ≡ c) × (b ≡ d) → t ≡ true)
+pub equal_masks : (a b c d : ℕ) → AreMasks a b → AreMasks c d → (t : Bool) → (t ≡ true → (a ≡ c) × (b ≡ d))
+    → ((a ≡ c) × (b ≡ d) → t ≡ true)
     → t ≡ pointwise nat_eq (held_roles MOST_ROLES a b) (held_roles MOST_ROLES c d)
 equal_masks a b c d m n t to from =
     same_test t (pointwise nat_eq (held_roles MOST_ROLES a b) (held_roles MOST_ROLES c d))
@@ -463,7 +498,8 @@ unfolding has_bit
 has_bit-suc mask k = ap (λ b. eqb b 1) (bit_at-suc mask k)
 
 -- of the numbers from one on, as many pass as the mask has bits whose tests they pass
-passed_ones : (p : ℕ → Bool) (at n mask : ℕ) → mask < 2 ^ n → ((k : ℕ) → k < n → p (at + k) ≡ has_bit mask k) → length (filter p (count_up at n)) ≡ ones mask
+passed_ones : (p : ℕ → Bool) (at n mask : ℕ) → mask < 2 ^ n → ((k : ℕ) → k < n → p (at + k) ≡ has_bit mask k)
+    → length (filter p (count_up at n)) ≡ ones mask
 passed_ones p at zero mask fits same = let none : mask ≡ 0 = omega (arith, fits) in rw none (sym ones_of_0)
 passed_ones p at (suc n) mask fits same =
     let rest : length (filter p (count_up (at + 1) n)) ≡ ones (mask / 2) =
@@ -481,7 +517,8 @@ passed_ones p at (suc n) mask fits same =
         let low : mask % 2 ≡ 1 = sym (bit_at_lowest mask) ∙ o in
         rw (first, has_bit_of_one mask 0 o) (ap suc rest ∙ sym (ones_halved mask ∙ rw (low, ones_of_1) (omega arith)))
 
-passed_both : (p : ℕ → Bool) (at m n : ℕ) → length (filter p (count_up at (m + n))) ≡ length (filter p (count_up at m)) + length (filter p (count_up (at + m) n))
+passed_both : (p : ℕ → Bool) (at m n : ℕ) → length (filter p (count_up at (m + n))) ≡ length (filter p (count_up at m)) + length
+    (filter p (count_up (at + m) n))
 passed_both p at zero n =
     let all : 0 + n ≡ n = omega arith in
     let from : at + 0 ≡ at = omega arith in rw (all, from) (omega arith)
@@ -490,17 +527,20 @@ passed_both p at (suc m) n =
     let from : at + suc m ≡ (at + 1) + m = omega arith in
     rw (all, from) (by_test (p at) (passed_both p (at + 1) m n))
   where
-    by_test : (t : Bool) → length (filter p (count_up (at + 1) (m + n))) ≡ length (filter p (count_up (at + 1) m)) + length (filter p (count_up ((at + 1) + m) n))
+    by_test : (t : Bool) → length (filter p (count_up (at + 1) (m + n))) ≡ length (filter p (count_up (at + 1) m)) + length
+        (filter p (count_up ((at + 1) + m) n))
         → length (cond t (at ∷ filter p (count_up (at + 1) (m + n))) (filter p (count_up (at + 1) (m + n))))
         ≡ length (cond t (at ∷ filter p (count_up (at + 1) m)) (filter p (count_up (at + 1) m))) + length (filter p (count_up ((at + 1) + m) n))
     by_test true e = omega (arith, e)
     by_test false e = e
 
 -- a set has as many roles as its masks have bits
-pub length-held_roles : (m n low high : ℕ) → m ≡ MASK_BITS → low < 2 ^ m → high < 2 ^ n → length (held_roles (m + n) low high) ≡ ones low + ones high
+pub length-held_roles : (m n low high : ℕ) → m ≡ MASK_BITS → low < 2 ^ m → high < 2 ^ n
+    → length (held_roles (m + n) low high) ≡ ones low + ones high
 unfolding held_roles
 length-held_roles m n low high width low_fits high_fits =
-    passed_both (is_held low high) 0 m n ∙ rw (passed_ones (is_held low high) 0 m low low_fits in_low, passed_ones (is_held low high) (0 + m) n high high_fits in_high) refl
+    passed_both (is_held low high) 0 m n
+    ∙ rw (passed_ones (is_held low high) 0 m low low_fits in_low, passed_ones (is_held low high) (0 + m) n high high_fits in_high) refl
   where
     in_low : (k : ℕ) → k < m → is_held low high (0 + k) ≡ has_bit low k
     in_low k l =
@@ -523,7 +563,8 @@ first_in_low low high from place masks next = record {
 }
 
 -- the low mask has none, and the high one does
-pub first_in_high : (low high from place : ℕ) → AreMasks low high → ((k : ℕ) → from ≤ k → has_bit low k ≡ false) → IsNextBit high (from - MASK_BITS) place
+pub first_in_high : (low high from place : ℕ) → AreMasks low high → ((k : ℕ) → from ≤ k → has_bit low k ≡ false)
+    → IsNextBit high (from - MASK_BITS) place
     → IsFirstFrom (held_roles MOST_ROLES low high) from (MASK_BITS + place)
 first_in_high low high from place masks none next = record {
   there = has_role-masks low high masks (MASK_BITS + place) ∙ in_high low high (MASK_BITS + place) (omega arith)
@@ -532,15 +573,20 @@ first_in_high low high from place masks none next = record {
   none_between = λ other l m. has_role-masks low high masks other ∙ by_half other l m (ltb other MASK_BITS) refl;
 }
   where
-    by_half : (other : ℕ) → from ≤ other → other < MASK_BITS + place → (t : Bool) → ltb other MASK_BITS ≡ t → cond t (has_bit low other) (has_bit high (other - MASK_BITS)) ≡ false
+    by_half : (other : ℕ) → from ≤ other → other < MASK_BITS + place → (t : Bool) → ltb other MASK_BITS ≡ t
+        → cond t (has_bit low other) (has_bit high (other - MASK_BITS)) ≡ false
     by_half other l m true e = none other l
     by_half other l m false e =
         let behind : MASK_BITS ≤ other = grind (arith, nat_tests) in
         next.none_between (other - MASK_BITS) (omega arith) (omega arith)
 
 -- neither has
-pub none_from : (low high from : ℕ) → AreMasks low high → ((k : ℕ) → from ≤ k → has_bit low k ≡ false) → ((k : ℕ) → from - MASK_BITS ≤ k → has_bit high k ≡ false)
+pub none_from : (low high from : ℕ) → AreMasks low high → ((k : ℕ) → from ≤ k → has_bit low k ≡ false)
+    → ((k : ℕ) → from - MASK_BITS ≤ k → has_bit high k ≡ false)
     → (role : ℕ) → from ≤ role → has_role (held_roles MOST_ROLES low high) role ≡ false
 none_from low high from masks none nor role l =
     has_role-masks low high masks role
-    ∙ (elim (ltb role MASK_BITS) as (λ t. cond t (has_bit low role) (has_bit high (role - MASK_BITS)) ≡ false) [ true ↦ none role l | false ↦ nor (role - MASK_BITS) (omega arith) ])
+    ∙ (elim (ltb role MASK_BITS) as (λ t. cond t (has_bit low role) (has_bit high (role - MASK_BITS)) ≡ false) [
+      | true ↦ none role l
+      | false ↦ nor (role - MASK_BITS) (omega arith)
+    ])

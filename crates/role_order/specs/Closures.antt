@@ -28,13 +28,16 @@ pub record AreTurned (sets : List (List ℕ)) (count : ℕ) (turned : List (List
 abbrev pub raised_set : List ℕ → ℕ → ℕ → List ℕ → List ℕ
 raised_set seniors senior junior set = if has_role set junior && not (has_role set senior) then join_roles set seniors else set
 
+-- the table with the senior's row added to each row that the junior's stands in
 abbrev pub raised : List (List ℕ) → ℕ → ℕ → List (List ℕ)
 raised above senior junior = map (raised_set (get_or above senior []) senior junior) above
 
+-- what holds of the table
 abbrev pub IfTable : Closure → (List (List ℕ) → Type 0) → Type 0
 IfTable (Table above) P = P above.items
 IfTable (Cycle place) P = Unit {0}
 
+-- what holds of the edge that closes a circle
 abbrev pub IfCycle : Closure → (ℕ → Type 0) → Type 0
 IfCycle (Table above) P = Unit {0}
 IfCycle (Cycle place) P = P place

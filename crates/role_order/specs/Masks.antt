@@ -1,5 +1,6 @@
 -- Sets of roles as two masks: bit k of the low one is role k, and bit k of the high one is role MASK_BITS + k.
-use Rattle.std.specs.Prelude.{ℕ, zero, suc, ◌≡◌, ◌+◌, ◌-◌, ◌^◌, ◌<◌, ◌≤◌, ◌==◌, Bool, true, false, nat_lt, if◌then◌else◌, List, filter}
+use Rattle.std.specs.Prelude.{ℕ, zero, suc, ◌≡◌, ◌+◌, ◌-◌, ◌^◌, ◌<◌, ◌≤◌, ◌==◌, Bool, true, false, nat_lt}
+use Rattle.std.specs.Prelude.{if◌then◌else◌, List, filter}
 use Rattle.std.specs.Int.{bit_at}
 use Rattle.role_order.specs.declared.TheConstants.{MOST_ROLES, MASK_BITS}
 use Rattle.role_order.specs.Roles.{has_role}
@@ -31,6 +32,7 @@ mask_of test (suc n) = (if test n then 2 ^ n else 0) + mask_of test n
 abbrev pub low_of : List ℕ → ℕ
 low_of roles = mask_of (has_role roles) MASK_BITS
 
+-- the roles of the high mask
 abbrev pub high_of : List ℕ → ℕ
 high_of roles = mask_of (λ k. has_role roles (MASK_BITS + k)) (MOST_ROLES - MASK_BITS)
 

@@ -1,5 +1,6 @@
 -- The masks of a set come back from the list of its roles.
-use Rattle.std.specs.Prelude.{ℕ, zero, suc, ◌≡◌, ◌+◌, ◌-◌, ◌*◌, ◌%◌, ◌^◌, ◌<◌, ◌≤◌, ◌⊎◌, Bool, true, false, if◌then◌else◌, ◌∷◌, filter, refl}
+use Rattle.std.specs.Prelude.{ℕ, zero, suc, ◌≡◌, ◌+◌, ◌-◌, ◌*◌, ◌%◌, ◌^◌, ◌<◌, ◌≤◌, ◌⊎◌, Bool, true, false}
+use Rattle.std.specs.Prelude.{if◌then◌else◌, ◌∷◌, filter, refl}
 use Rattle.std.specs.Int.{bit_at}
 use Rattle.std.proofs.Common.{arith, ap, ◌∙◌, sym, eqb, ltb, cond, inl, inr}
 use Rattle.std.proofs.Math.Nat.{mod-one, mod-eq_of_lt, zero-mul, one-mul}
@@ -80,7 +81,8 @@ mask_of-has_bit mask (suc n) = by_bit (bit_cases mask n) (mask_of-has_bit mask n
     split : mask % 2 ^ (suc n) ≡ bit_at mask n * 2 ^ n + mask % 2 ^ n
     split = let one_more : 1 + n ≡ suc n = omega arith in rw one_more at (mod-pow-add mask 1 n)
 
-    by_bit : (bit_at mask n ≡ 0) ⊎ (bit_at mask n ≡ 1) → mask_of (has_bit mask) n ≡ mask % 2 ^ n → (if has_bit mask n then 2 ^ n else 0) + mask_of (has_bit mask) n ≡ bit_at mask n * 2 ^ n + mask % 2 ^ n
+    by_bit : (bit_at mask n ≡ 0) ⊎ (bit_at mask n ≡ 1) → mask_of (has_bit mask) n ≡ mask % 2 ^ n
+        → (if has_bit mask n then 2 ^ n else 0) + mask_of (has_bit mask) n ≡ bit_at mask n * 2 ^ n + mask % 2 ^ n
     by_bit (inl z) rest = rw (has_bit_of_zero mask n z, z, rest) (ap (λ t. t + mask % 2 ^ n) (sym (zero-mul (2 ^ n))))
     by_bit (inr o) rest = rw (has_bit_of_one mask n o, o, rest) (ap (λ t. t + mask % 2 ^ n) (sym (one-mul (2 ^ n))))
 

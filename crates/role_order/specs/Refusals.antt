@@ -11,6 +11,7 @@ use Rattle.role_order.specs.Graph.{IsEdge, AreEdges, AreAcyclic, IsCycle}
 abbrev pub AreCounted : List (List ℕ) → Type 0
 AreCounted names = (1 ≤ length names) × (length names ≤ MOST_ROLES)
 
+-- each is a role name
 abbrev pub AreRoleNames : List (List ℕ) → Type 0
 AreRoleNames names = Each (λ name. is_role_name name ≡ true) names
 

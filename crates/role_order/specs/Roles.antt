@@ -1,5 +1,6 @@
 -- Sets of roles, as strictly rising lists of role numbers.
-use Rattle.std.specs.Prelude.{ℕ, ◌≡◌, ◌<◌, ◌≤◌, Bool, true, false, not, ◌==◌, ◌||◌, ◌&&◌, nat_lt, nat_le, Option, Some, None, if◌then◌else◌, List, [], ◌∷◌, filter}
+use Rattle.std.specs.Prelude.{ℕ, ◌≡◌, ◌<◌, ◌≤◌, Bool, true, false, not, ◌==◌, ◌||◌, ◌&&◌, nat_lt, nat_le, Option, Some, None}
+use Rattle.std.specs.Prelude.{if◌then◌else◌, List, [], ◌∷◌, filter}
 use Rattle.std.specs.List.{list_any, list_all}
 use Rattle.list_words.specs.Lists.{Each}
 use Rattle.role_order.specs.declared.TheConstants.{MOST_ROLES}
@@ -14,6 +15,7 @@ abbrev pub with_role : List ℕ → ℕ → List ℕ
 with_role [] role = role ∷ []
 with_role (x ∷ xs) role = if nat_lt role x then role ∷ x ∷ xs else if x == role then x ∷ xs else x ∷ with_role xs role
 
+-- the set without the role
 abbrev pub without_role : List ℕ → ℕ → List ℕ
 without_role xs role = filter (λ x. not (x == role)) xs
 
@@ -47,9 +49,11 @@ abbrev pub first_from : List ℕ → ℕ → Option ℕ
 first_from [] from = None
 first_from (x ∷ xs) from = if nat_le from x then Some x else first_from xs from
 
+-- the role is in the set
 abbrev pub IsIn : List ℕ → ℕ → Type 0
 IsIn set role = has_role set role ≡ true
 
+-- the role isn't in the set
 abbrev pub IsOut : List ℕ → ℕ → Type 0
 IsOut set role = has_role set role ≡ false
 

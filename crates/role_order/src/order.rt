@@ -1,6 +1,7 @@
 //! Role orders.
 
-ghost use Rattle.std.specs.Prelude.{ℕ, true, ◌≡◌, ◌^◌, ◌<◌, ◌≤◌, List, ◌↔◌, IsTrue, length, vec_len, IfOk, IfErr, IfSome, Some, None, slice_get, map};
+ghost use Rattle.std.specs.Prelude.{ℕ, true, ◌≡◌, ◌^◌, ◌<◌, ◌≤◌, List, ◌↔◌, IsTrue, length, vec_len, IfOk, IfErr, IfSome, Some};
+ghost use Rattle.std.specs.Prelude.{None, slice_get, map};
 ghost use Rattle.role_order.specs.Names.{texts, place_of};
 ghost use Rattle.role_order.specs.Graph.{Leads, turned};
 ghost use Rattle.role_order.specs.Refusals.{AreNames, IsOrder, IsRefused};

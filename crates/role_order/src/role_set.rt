@@ -3,7 +3,8 @@
 ghost use Rattle.std.specs.Prelude.{ℕ, ◌≡◌, ◌<◌, ◌≤◌, ◌↔◌, [], length, slice_get, IsTrue, IfSome, IfNone};
 ghost use Rattle.list_words.specs.Orders.{IsTotalOrder};
 ghost use Rattle.role_order.specs.Orders.{set_before};
-ghost use Rattle.role_order.specs.Roles.{has_role, with_role, without_role, less_roles, is_within, have_common, common_roles, join_roles, first_from, differ, Rises, IsOut, IsFirstFrom, IsRoleSet};
+ghost use Rattle.role_order.specs.Roles.{has_role, with_role, without_role, less_roles, is_within, have_common, common_roles, join_roles, first_from};
+ghost use Rattle.role_order.specs.Roles.{differ, Rises, IsOut, IsFirstFrom, IsRoleSet};
 
 use crate::mask::{bit, has_bit, next_bit};
 use crate::{MASK_BITS, MOST_ROLES};

@@ -113,7 +113,8 @@ abbrev pub HasLeast : (ℕ → ℕ → Type 0) → ℕ → ℕ → Type 0
 HasLeast B n j = ((i : ℕ) → i < n → B i j → ⊥) ⊎ ((i : ℕ) × B i j × ((k : ℕ) → k < n → B k i → ⊥))
 
 -- by the places below one number after another
-pub has_least : (B : ℕ → ℕ → Type 0) → ((i j : ℕ) → Decided (B i j)) → ((i : ℕ) → B i i → ⊥) → ((i j k : ℕ) → B i j → B j k → B i k)
+pub has_least : (B : ℕ → ℕ → Type 0) → ((i j : ℕ) → Decided (B i j)) → ((i : ℕ) → B i i → ⊥)
+    → ((i j k : ℕ) → B i j → B j k → B i k)
     → (n j : ℕ)
     → HasLeast B n j
 has_least B d never through zero j = inl (λ i l b. omega arith)

@@ -25,7 +25,8 @@ loop-junior-preserved c =
       | else-has w ↦ rw w.juniors-is record {
         rises = c.loop-junior.invariant.rises;
         each = no_more (λ junior. HasAt c.args.above.now junior c.args.senior) c.loop-junior.junior c.loop-junior.juniors c.loop-junior.invariant.each
-            (λ has. false≢true (w.if-has.ensures.value ∙ has_at_place c.args.above.now c.loop-junior.junior c.args.senior c.index-above-junior.result at has));
+            (λ has. false≢true (w.if-has.ensures.value
+            ∙ has_at_place c.args.above.now c.loop-junior.junior c.args.senior c.index-above-junior.result at has));
       }
     ]
 

@@ -10,8 +10,10 @@ use Rattle.role_order.proofs.name_table.number_of.Goals as goal
 pub returns-in-Ok-clause-place : goal.returns-in-Ok-clause-place
 returns-in-Ok-clause-place c =
     let names = texts c.args.names.now in
-    let found = c.in-Ok.ensures.position (λ role. slice_cmp nat_cmp (name_at names role) c.args.bytes.now) (always_returns_same _ _ _ (λ a r f called. search rules)) in
-    sym (place_of-searched names c.args.table.now c.args.bytes.now (get_or c.args.table.now c.in-Ok.at 0) c.requires.different (c.requires.table.within c.in-Ok.at 0 c.in-Ok.ensures.bound) (found 0))
+    let found = c.in-Ok.ensures.position (λ role. slice_cmp nat_cmp (name_at names role) c.args.bytes.now)
+    (always_returns_same _ _ _ (λ a r f called. search rules)) in
+    sym (place_of-searched names c.args.table.now c.args.bytes.now (get_or c.args.table.now c.in-Ok.at 0) c.requires.different
+    (c.requires.table.within c.in-Ok.at 0 c.in-Ok.ensures.bound) (found 0))
 
 -- the search found none
 pub returns-in-Err-clause-place : goal.returns-in-Err-clause-place

@@ -14,6 +14,7 @@ invariant_of-result c =
     record {
       order = c.requires.order;
       seniors = c.requires.above;
-      juniors = turned_table (length (texts c.args.names.items)) c.args.edges.items c.args.above.items c.in_ok-below.below.items c.requires.order.ends c.requires.above turned;
+      juniors = turned_table
+          (length (texts c.args.names.items)) c.args.edges.items c.args.above.items c.in_ok-below.below.items c.requires.order.ends c.requires.above turned;
       table = rw c.deref-2.ensures.value at c.in_ok-by_name.ensures;
     }

@@ -20,7 +20,8 @@ invariant_of-result c =
       c.in_ok-from_slice-3.ensures.items,
       c.deref-5.ensures.value,
     )
-    (kept_turned (texts c.self.inside.names.items) c.self.inside.edges.items c.self.inside.above.items c.self.inside.below.items c.self.inside.by_name.items c.self.invariant)
+    (kept_turned (texts c.self.inside.names.items) c.self.inside.edges.items c.self.inside.above.items c.self.inside.below.items
+    c.self.inside.by_name.items c.self.invariant)
 
 -- an edge turned round leads back
 pub returns-clause-geq : goal.returns-clause-geq

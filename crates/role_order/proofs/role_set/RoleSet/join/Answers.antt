@@ -6,4 +6,5 @@ invariant_of-result c = joined_masks c.self.inside.low c.self.inside.high c.othe
 
 -- the bits of one or the other are set
 pub returns : goal.returns
-returns c = rw (← c.self.view_is, ← c.other.view_is) (joined_set c.self.inside.low c.self.inside.high c.other.inside.low c.other.inside.high c.self.invariant c.other.invariant)
+returns c = rw (← c.self.view_is, ← c.other.view_is)
+    (joined_set c.self.inside.low c.self.inside.high c.other.inside.low c.other.inside.high c.self.invariant c.other.invariant)

@@ -28,7 +28,8 @@ next c = let at : c.args.from - MASK_BITS ≡ c.saturating_sub.result = omega ar
 
 -- the low mask has no bit, and the high one does
 in_high : (c : In_ok-next_bit-in-None) → IsFirstFrom c.args.self.now c.args.from (MASK_BITS + c.in_ok-next_bit-in-None.field-0)
-in_high c = rw (← c.self.view_is) (first_in_high c.self.inside.low c.self.inside.high c.args.from c.in_ok-next_bit-in-None.field-0 c.self.invariant c.in-None.ensures.none (next c))
+in_high c = rw (← c.self.view_is)
+    (first_in_high c.self.inside.low c.self.inside.high c.args.from c.in_ok-next_bit-in-None.field-0 c.self.invariant c.in-None.ensures.none (next c))
 
 pub returns-in_ok-next_bit-in-None-clause-found : goal.returns-in_ok-next_bit-in-None-clause-found
 returns-in_ok-next_bit-in-None-clause-found c = in_high c

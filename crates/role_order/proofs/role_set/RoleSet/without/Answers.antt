@@ -4,7 +4,8 @@ use Rattle.role_order.proofs.role_set.RoleSet.without.Goals as goal
 
 -- a low bit is cleared
 pub returns-then-role-lt-MASK_BITS : goal.returns-then-role-lt-MASK_BITS
-returns-then-role-lt-MASK_BITS c = rw (← c.self.view_is, c.bit.ensures) (set_without_low c.self.inside.low c.self.inside.high c.args.role c.self.invariant c.if-role-lt-MASK_BITS.true)
+returns-then-role-lt-MASK_BITS c =
+    rw (← c.self.view_is, c.bit.ensures) (set_without_low c.self.inside.low c.self.inside.high c.args.role c.self.invariant c.if-role-lt-MASK_BITS.true)
 
 -- a high bit is cleared, or none
 pub returns-after-role : goal.returns-after-role
