@@ -1,7 +1,7 @@
 -- The reply to what was fetched, and to what the file holds.
 use Rattle.std.proofs.Common.{ℕ, ◌≡◌, ◌≤◌, ◌+◌, ◌∙◌, List, [], ◌∷◌, length, take, refl, arith, zero, suc, sym, subst, ap, inl, inr, Option, Some, None}
 use Rattle.std.specs.Prelude.{◌⊎◌, IfSome, map}
-use Rattle.role_order.specs.Lists.{Each}
+use Rattle.list_words.specs.Lists.{Each}
 use Rattle.arbac_desk.specs.declared.TheConstants.{MOST_RUN_BYTES}
 use Rattle.arbac_desk.specs.declared.reply.Reply.{Reply}
 use Rattle.arbac_desk.specs.declared.reply.Reply.TheVariants.{Done, Unmet, Stopped, Malformed}

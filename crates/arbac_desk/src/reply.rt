@@ -1,7 +1,7 @@
 //! The reply of `replay` to the bytes of its file.
 
 ghost use Rattle.std.specs.Prelude.{ℕ, ◌≡◌, ◌<◌, ◌≤◌, ◌^◌, length, IfOk, List, IsTrue, ◌↔◌};
-ghost use Rattle.role_order.specs.Lists.{Each};
+ghost use Rattle.list_words.specs.Lists.{Each};
 ghost use Rattle.arbac_policy.specs.Truth.{term_of, IsKnown};
 ghost use Rattle.policy_text.specs.Runs.{StandsFor, plain_of, IsForUsers};
 ghost use Rattle.arbac_desk.specs.Replies.{RepliesTo, EndsAt};

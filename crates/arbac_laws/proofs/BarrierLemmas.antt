@@ -3,9 +3,10 @@ use Rattle.std.proofs.Common.{ℕ, ◌≡◌, ◌<◌, ◌+◌, List, [], ◌∷
 use Rattle.std.specs.Prelude.{slice_get, slice_set, ◌⊎◌, filter}
 use Rattle.std.proofs.lemmas.Bool.{eqb-true, eq-eqb}
 use Rattle.role_order.proofs.ReachLemmas.{leads_from_below}
-use Rattle.role_order.proofs.SetLemmas.{and_both, both_true, has_role-count_up, has_role-filter, or_right}
+use Rattle.role_order.proofs.SetLemmas.{has_role-count_up, has_role-filter}
+use Rattle.list_words.proofs.TestLemmas.{and_both, both_true, or_right, not_true}
 use Rattle.role_order.specs.Graph.{AreEdges, Graph}
-use Rattle.role_order.specs.Lists.{Each, IsOneOf, Some_of}
+use Rattle.list_words.specs.Lists.{Each, IsOneOf, Some_of}
 use Rattle.role_order.specs.Reach.{count_up, seniors_of}
 use Rattle.role_order.specs.Roles.{AreBelow, HaveCommon, IsIn, IsOut, IsWithin, has_role, join_roles, less_roles}
 use Rattle.arbac_policy.specs.Goals.{AreUsers, IsDrawn, times}
@@ -20,12 +21,11 @@ use Rattle.arbac_laws.specs.Needs.{Covers, CoversNeed, HasHits, IsCovered, Meets
 use Rattle.arbac_laws.specs.Obligations.{Obligation, obligations, pre_image}
 use Rattle.arbac_laws.specs.PreImages.{AssignObligation, IsPick, Pick, WeakObligation, add_hit, assign_pre_image, barred, is_barred, is_empty, weak_pre_image, with_admin, itself, other, fresh}
 use Rattle.arbac_laws.proofs.ConjunctLemmas.{AreSeniors}
-use Rattle.arbac_laws.proofs.ListLemmas.{each_append, each_is, some_right, some_weaker}
+use Rattle.list_words.proofs.EachLemmas.{each_append, each_at, some_right, some_weaker}
 use Rattle.arbac_laws.proofs.ObligationLemmas.{IsAssigning, IsRevoking, in_parts}
-use Rattle.arbac_laws.proofs.OrderLemmas.{count}
-use Rattle.role_order.proofs.OrderLemmas.{not_true}
+use Rattle.list_words.proofs.CountLemmas.{count}
 use Rattle.arbac_laws.proofs.RoleLemmas.{cases_in, less_in}
-use Rattle.arbac_laws.proofs.MapLemmas.{some_cond}
+use Rattle.list_words.proofs.GetLemmas.{some_cond}
 
 pub in_outside : (count : ℕ) (set : List ℕ) (role : ℕ) → role < count → IsOut set role → IsIn (outside count set) role
 in_outside count set role l o = has_role-filter (λ r. not (has_role set r)) (count_up 0 count) role
@@ -130,12 +130,12 @@ conjuncts_below order same ends (either left right) h =
 pub roles_below : (rules : Rules) → AreSeniors rules.order → AreEdges (length rules.order.names) rules.order.edges → IsPolicy rules → AreRolesBelow rules
 roles_below rules same ends policy = record {
   admins = λ rule is. seniors_below rules.order same ends rule.admin (known rule is).admin;
-  hits = λ rule is conjunct at. each_is (AreHitsBelow (length rules.order.names)) (conjuncts rules.order (term_of rule.cond)) conjunct at.0
+  hits = λ rule is conjunct at. each_at (AreHitsBelow (length rules.order.names)) (conjuncts rules.order (term_of rule.cond)) at.0 conjunct
       (conjuncts_below rules.order same ends (term_of rule.cond) (known rule is).cond) at.1;
 }
   where
     known : (rule : CanAssign) → IsOneOf rules.assign rule → IsKnownAssign (length rules.order.names) rule
-    known rule is = each_is (IsKnownAssign (length rules.order.names)) rules.assign rule is.0 policy.assign is.1
+    known rule is = each_at (IsKnownAssign (length rules.order.names)) rules.assign is.0 rule policy.assign is.1
 
 -- pre-images of the barrier
 

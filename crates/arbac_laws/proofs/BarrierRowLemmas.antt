@@ -6,8 +6,8 @@ use Rattle.role_order.specs.Graph.{Leads, here, down}
 use Rattle.role_order.specs.Ranges.{IsInRange}
 use Rattle.role_order.specs.Reach.{count_up, leads_by, seniors_of}
 use Rattle.role_order.specs.Roles.{IsIn, IsWithin}
-use Rattle.role_order.specs.Lists.{IsOneOf}
-use Rattle.role_order.proofs.SetLemmas.{or_cases}
+use Rattle.list_words.specs.Lists.{IsOneOf}
+use Rattle.list_words.proofs.TestLemmas.{or_cases}
 use Rattle.arbac_policy.specs.declared.rule.CanAssign.{CanAssign}
 use Rattle.arbac_policy.specs.Rules.{Rules}
 use Rattle.arbac_policy.specs.Truth.{term_of}
@@ -15,7 +15,7 @@ use Rattle.arbac_policy.specs.declared.cond.Cond.TheVariants.{Lacks}
 use Rattle.arbac_laws.specs.Barriers.{HasGains, IsCeiling, barriers}
 use Rattle.arbac_laws.specs.Conjuncts.{conjuncts}
 use Rattle.arbac_laws.specs.Rows.{mix, mix_apart, adm, c, d, one_admin, only, hits, hits_either}
-use Rattle.arbac_laws.proofs.MapLemmas.{same_some}
+use Rattle.list_words.proofs.GetLemmas.{same_some}
 use Rattle.arbac_laws.proofs.RoleLemmas.{in_with_same}
 use Rattle.arbac_laws.proofs.RowLemmas.{lacks_adm, one_profile}
 

@@ -1,7 +1,7 @@
 -- A closed list excludes each run to the goal.
 use Rattle.std.proofs.Common.{ℕ, List, [], ◌∷◌, subst, inl, inr}
 use Rattle.std.specs.Prelude.{◌⊎◌}
-use Rattle.role_order.specs.Lists.{IsOneOf, Some_of}
+use Rattle.list_words.specs.Lists.{IsOneOf, Some_of}
 use Rattle.arbac_policy.specs.Goals.{IsReachable}
 use Rattle.arbac_policy.specs.Holders.{falling}
 use Rattle.arbac_policy.specs.Rules.{Rules}
@@ -16,7 +16,7 @@ use Rattle.arbac_laws.specs.Needs.{Meets, Need}
 use Rattle.arbac_laws.specs.PreImages.{AssignObligation, WeakObligation, assign_pre_image, weak_pre_image}
 use Rattle.arbac_laws.proofs.CoverLemmas.{cover_met, met_possible}
 use Rattle.arbac_laws.proofs.GoalLemmas.{goal_met_needs}
-use Rattle.arbac_laws.proofs.ListLemmas.{some_at, some_item}
+use Rattle.list_words.proofs.EachLemmas.{some_one_at, some_item}
 use Rattle.arbac_laws.proofs.StepLemmas.{before_assign_step, before_weak_step}
 use Rattle.arbac_laws.proofs.ConjunctLemmas.{AreSeniors}
 use Rattle.arbac_policy.specs.declared.act.ActKind.{ActKind}
@@ -34,7 +34,7 @@ weak_back rules same profiles goal list closed old new admin target role step me
     let one = some_item (λ needs. Meets new needs) list met in by_case one.0 one.1 (before_weak_step rules same old new admin target role one.0 step one.2)
   where
     by_case : (needs : List Need) → IsOneOf list needs → Meets old needs ⊎ ((ob : WeakObligation rules needs) × Meets old (weak_pre_image ob)) → MeetsOne old list
-    by_case needs is (inl m) = some_at (λ n. Meets old n) list needs is m
+    by_case needs is (inl m) = some_one_at (λ n. Meets old n) list needs is m
     by_case needs is (inr d) = cover_met old list (weak_pre_image d.0) (closed.revokes needs is d.0 (met_possible old (weak_pre_image d.0) d.1)) d.1
 
 pub assign_back : (rules : Rules) → AreSeniors rules.order → (profiles : List Profile) (goal : List Term) (list : List (List Need)) → IsClosed rules profiles goal list
@@ -43,7 +43,7 @@ assign_back rules same profiles goal list closed old new admin target role step 
     let one = some_item (λ needs. Meets new needs) list met in by_case one.0 one.1 (before_assign_step rules same old new admin target role one.0 step one.2)
   where
     by_case : (needs : List Need) → IsOneOf list needs → Meets old needs ⊎ ((ob : AssignObligation rules needs) × Meets old (assign_pre_image ob)) → MeetsOne old list
-    by_case needs is (inl m) = some_at (λ n. Meets old n) list needs is m
+    by_case needs is (inl m) = some_one_at (λ n. Meets old n) list needs is m
     by_case needs is (inr d) = cover_met old list (assign_pre_image d.0) (closed.assigns needs is d.0 (met_possible old (assign_pre_image d.0) d.1)) d.1
 
 pub weaks_back : (rules : Rules) → AreSeniors rules.order → (profiles : List Profile) (goal : List Term) (list : List (List Need)) → IsClosed rules profiles goal list

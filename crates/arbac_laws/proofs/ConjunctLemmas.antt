@@ -2,13 +2,13 @@
 use Rattle.std.proofs.Common.{ℕ, List, [], ◌∷◌, inl, inr}
 use Rattle.std.specs.Prelude.{◌⊎◌}
 use Rattle.role_order.specs.Graph.{Graph}
-use Rattle.role_order.specs.Lists.{Some_of}
+use Rattle.list_words.specs.Lists.{Some_of}
 use Rattle.role_order.specs.Reach.{seniors_of}
 use Rattle.role_order.specs.Roles.{HaveCommon}
 use Rattle.arbac_policy.specs.Truth.{IsMember, Satisfies, Term, any, has, lacks, both, either, user}
 use Rattle.arbac_laws.specs.Conjuncts.{conjuncts, join_all, join_needs, join_with}
 use Rattle.arbac_laws.specs.Needs.{MeetsNeed, Need}
-use Rattle.arbac_laws.proofs.ListLemmas.{each_append, each_left, each_right, some_cases, some_left, some_right}
+use Rattle.list_words.proofs.EachLemmas.{each_append, each_left, each_right, some_cases, some_left, some_right}
 use Rattle.arbac_laws.proofs.RoleLemmas.{apart_join, in_join_left, in_join_right}
 use Rattle.role_order.specs.Graph.{Graph, Leads, AreEdges}
 use Rattle.role_order.specs.Roles.{IsIn}

@@ -1,12 +1,11 @@
 -- Cover is transitive, and who meets the covered meets the covering.
 use Rattle.std.proofs.Common.{ℕ, ◌≡◌, List, [], ◌∷◌, Bool, true, false, subst, refl, inl, inr}
 use Rattle.std.specs.Prelude.{◌⊎◌}
-use Rattle.role_order.specs.Lists.{Each, Some_of}
+use Rattle.list_words.specs.Lists.{Each, Some_of}
 use Rattle.role_order.specs.Roles.{HaveCommon, IsIn, IsOut, IsWithin, has_role, less_roles}
 use Rattle.arbac_laws.specs.Needs.{Covers, CoversNeed, IsCovered, IsPossible, Meets, MeetsNeed, Need}
-use Rattle.role_order.proofs.ListLemmas.{each_of}
-use Rattle.arbac_laws.proofs.ListLemmas.{each_weaker, some_each, some_weaker}
-use Rattle.arbac_laws.proofs.MapLemmas.{compose}
+use Rattle.list_words.proofs.EachLemmas.{each_of, each_weaker, some_each, some_weaker}
+use Rattle.list_words.proofs.EmbedLemmas.{compose}
 use Rattle.arbac_laws.proofs.RoleLemmas.{cases_in, in_less, less_in, less_out}
 
 pub covered_met : (a b : Need) (set : List ℕ) → CoversNeed a b → MeetsNeed b set → MeetsNeed a set

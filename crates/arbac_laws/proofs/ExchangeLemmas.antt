@@ -5,7 +5,9 @@ use Rattle.std.proofs.lemmas.Bool.{eq-eqb, ne_eqb}
 use Rattle.role_order.specs.Roles.{HaveCommon}
 use Rattle.arbac_laws.specs.Needs.{Meets, MeetsNeed, Need}
 use Rattle.arbac_laws.specs.PreImages.{IsPick, Pick, add_hit, admin_place, change_at, with_admin, itself, other, fresh}
-use Rattle.arbac_laws.proofs.MapLemmas.{cases_eq, find_place, get_append, get_below, get_last, get_set_other, get_set_same, get_there, length_more, length_set}
+use Rattle.list_words.proofs.NumberLemmas.{cases_eq}
+use Rattle.list_words.proofs.EmbedLemmas.{find_place}
+use Rattle.list_words.proofs.GetLemmas.{get_append, get_below, get_last, get_set_other, get_set_same, get_there, length_more, length_set}
 
 pub length_change : (needs : List Need) (i : ℕ) (f : Need → Need) → length (change_at i f needs) ≡ length needs
 length_change [] i f = refl

@@ -3,18 +3,19 @@ use Rattle.std.proofs.Common.{ℕ, ◌≡◌, List, [], ◌∷◌, map, Some, sy
 use Rattle.std.specs.Prelude.{◌⊎◌, filter}
 use Rattle.std.specs.List.{list_any}
 use Rattle.std.proofs.lemmas.Bool.{eq-eqb}
-use Rattle.role_order.proofs.SetLemmas.{or_right}
-use Rattle.role_order.specs.Lists.{Each, Some_of}
-use Rattle.role_order.specs.Orders.{IsTotalOrder, set_before}
+use Rattle.list_words.proofs.TestLemmas.{or_right, not_false}
+use Rattle.list_words.specs.Lists.{Each, Some_of}
+use Rattle.role_order.specs.Orders.{set_before}
+use Rattle.list_words.specs.Orders.{IsTotalOrder, AreRising, AreSorted}
 use Rattle.role_order.specs.Roles.{AreApart, IsIn, IsOut, IsWithin, has_role, less_roles}
-use Rattle.role_order.proofs.ListLemmas.{each_of}
-use Rattle.role_order.proofs.OrderLemmas.{not_both, not_false, set_order}
+use Rattle.list_words.proofs.EachLemmas.{each_of, each_at, each_weaker, some_each}
+use Rattle.role_order.proofs.OrderLemmas.{set_order}
+use Rattle.list_words.proofs.OrderLemmas.{not_both}
 use Rattle.arbac_laws.specs.Needs.{Covers, CoversNeed, IsPossible, IsPossibleNeed, Need}
 use Rattle.arbac_laws.specs.Orders.{need_before}
-use Rattle.arbac_laws.specs.NormalForms.{AreRising, AreSorted, IsNormal, IsNormalNeed, bare_hits, insert_by, insert_once, is_impossible, is_less, least_hits, normal_form, normal_need, sort_by, sort_once}
-use Rattle.arbac_laws.proofs.ListLemmas.{each_is, each_weaker, some_each}
+use Rattle.arbac_laws.specs.NormalForms.{IsNormal, IsNormalNeed, bare_hits, insert_by, insert_once, is_impossible, is_less, least_hits, normal_form, normal_need, sort_by, sort_once}
 use Rattle.arbac_laws.proofs.NormalLemmas.{less_parts, normal_both, not_possible, possible_not}
-use Rattle.arbac_laws.proofs.MapLemmas.{some_cond}
+use Rattle.list_words.proofs.GetLemmas.{some_cond}
 use Rattle.arbac_laws.proofs.RoleLemmas.{cases_in, in_less}
 use Rattle.arbac_laws.proofs.SameLemmas.{any_of}
 
@@ -42,7 +43,7 @@ covering_possible_need a b covers possible =
 -- what covers a possible requirement is possible
 pub covering_possible : (a b : List Need) → Covers a b → IsPossible b → IsPossible a
 covering_possible a b covers possible = each_of IsPossibleNeed a (λ i need at.
-    let one = covers.each i need at in covering_possible_need need one.0 one.2 (each_is IsPossibleNeed b one.0 (covers.to i) possible one.1))
+    let one = covers.each i need at in covering_possible_need need one.0 one.2 (each_at IsPossibleNeed b (covers.to i) one.0 possible one.1))
 
 pub both_possible : (needs form : List Need) → normal_form needs ≡ Some form → IsPossible needs × IsPossible form
 both_possible needs form e =

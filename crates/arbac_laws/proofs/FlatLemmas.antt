@@ -3,8 +3,8 @@ use Rattle.std.proofs.Common.{ℕ, ◌≡◌, ◌<◌, ◌+◌, List, [], ◌∷
 use Rattle.std.specs.Prelude.{slice_get, ◌⊎◌, filter}
 use Rattle.std.proofs.lemmas.Bool.{eq-eqb, ne_eqb}
 use Rattle.std.specs.List.{list_any}
-use Rattle.role_order.proofs.SetLemmas.{and_both}
-use Rattle.role_order.specs.Lists.{IsOneOf, Some_of}
+use Rattle.list_words.proofs.TestLemmas.{and_both}
+use Rattle.list_words.specs.Lists.{IsOneOf, Some_of}
 use Rattle.role_order.specs.Ranges.{IsInRange}
 use Rattle.role_order.specs.Reach.{count_up, seniors_of}
 use Rattle.role_order.specs.Roles.{IsIn, has_role}
@@ -12,7 +12,7 @@ use Rattle.role_order.specs.declared.range.Range.{Range}
 use Rattle.arbac_policy.specs.Rules.{Rules}
 use Rattle.arbac_laws.specs.Obligations.{flat, flat_places, if_wanted, is_in_range, picks, roles_in}
 use Rattle.arbac_laws.specs.PreImages.{IsPick, Pick, itself, other, fresh}
-use Rattle.arbac_laws.proofs.ListLemmas.{map_some, some_cases, some_left, some_map, some_right}
+use Rattle.list_words.proofs.EachLemmas.{map_some, some_cases, some_left, some_map, some_right}
 use Rattle.arbac_laws.proofs.ConjunctLemmas.{AreSeniors}
 
 -- Some_of over the words that make lists

@@ -2,20 +2,22 @@
 use Rattle.std.proofs.Common.{ℕ, ◌≡◌, ◌<◌, ◌≤◌, ◌+◌, not, List, [], ◌∷◌, length, map, get_or, Some, arith, zero, suc, sym, ◌∙◌, ap, Bool, true, false, cond, subst, refl, inl, inr}
 use Rattle.std.specs.Prelude.{◌⊎◌, slice_get}
 use Rattle.std.proofs.lemmas.List.{ext_get_or}
-use Rattle.role_order.specs.Lists.{Each}
-use Rattle.role_order.specs.Orders.{IsTotalOrder}
-use Rattle.role_order.proofs.OrderLemmas.{not_false}
-use Rattle.arbac_policy.specs.Embeds.{Embeds}
+use Rattle.list_words.specs.Lists.{Each}
+use Rattle.list_words.specs.Orders.{IsTotalOrder, AreSorted}
+use Rattle.list_words.proofs.TestLemmas.{not_false}
+use Rattle.list_words.specs.Embeds.{Embeds}
 use Rattle.arbac_laws.specs.Needs.{IsPossible, Need}
 use Rattle.arbac_laws.specs.Orders.{need_before}
-use Rattle.arbac_laws.specs.NormalForms.{AreFormPlaces, AreSorted, insert_by, is_impossible, normal_form, normal_need, sort_by}
-use Rattle.arbac_laws.proofs.CountLemmas.{counted, cut, embeds_long, get_cut, shift, shift_apart}
-use Rattle.arbac_laws.proofs.MapLemmas.{compare, find_place, get_below, get_there, same_some}
+use Rattle.arbac_laws.specs.NormalForms.{AreFormPlaces, insert_by, is_impossible, normal_form, normal_need, sort_by}
+use Rattle.list_words.proofs.CountLemmas.{counted, cut, embeds_long, get_cut, shift, shift_apart, count}
+use Rattle.list_words.proofs.NumberLemmas.{compare}
+use Rattle.list_words.proofs.EmbedLemmas.{find_place}
+use Rattle.list_words.proofs.GetLemmas.{get_below, get_there, same_some, some_cond}
 use Rattle.arbac_laws.proofs.NormalLemmas.{possible_not}
-use Rattle.arbac_laws.proofs.MapLemmas.{some_cond}
-use Rattle.arbac_laws.proofs.OrderLemmas.{count, is_same, need_order, sorted_same}
+use Rattle.arbac_laws.proofs.OrderLemmas.{need_order}
+use Rattle.list_words.proofs.OrderLemmas.{is_same, sorted_same}
 use Rattle.arbac_laws.proofs.SortLemmas.{sort_sorted}
-use Rattle.arbac_laws.proofs.PlaceLemmas.{from_places, get-told, told, told_places}
+use Rattle.list_words.proofs.PlaceLemmas.{from_places, get-told, told, told_places}
 
 -- one item put in
 

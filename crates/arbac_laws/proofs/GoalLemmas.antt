@@ -2,7 +2,7 @@
 use Rattle.std.proofs.Common.{ℕ, ◌≡◌, ◌<◌, List, [], ◌∷◌, ◌++◌, length, map, Some, arith, zero, suc, sym, ap, cond, subst, refl, inl, inr}
 use Rattle.std.specs.Prelude.{slice_get, ◌⊎◌, ◌↔◌}
 use Rattle.role_order.specs.Graph.{Graph}
-use Rattle.role_order.specs.Lists.{Each, IsOneOf, Some_of}
+use Rattle.list_words.specs.Lists.{Each, IsOneOf, Some_of}
 use Rattle.arbac_policy.specs.Goals.{GoalMet}
 use Rattle.arbac_policy.specs.Truth.{Satisfies, Term, user}
 use Rattle.arbac_laws.specs.Conjuncts.{conjuncts}
@@ -10,7 +10,7 @@ use Rattle.arbac_laws.specs.Goals.{before_each, goal_requirements}
 use Rattle.arbac_laws.specs.Needs.{IsPossible, Meets, MeetsNeed, Need}
 use Rattle.arbac_laws.proofs.ConjunctLemmas.{conjunct_met, met_conjunct}
 use Rattle.arbac_laws.proofs.CoverLemmas.{met_possible}
-use Rattle.arbac_laws.proofs.ListLemmas.{each_is, some_at, map_some, some_cases, some_item, some_left, some_map, some_right, some_weaker}
+use Rattle.list_words.proofs.EachLemmas.{each_at, some_one_at, map_some, some_cases, some_item, some_left, some_map, some_right, some_weaker}
 use Rattle.arbac_laws.proofs.ConjunctLemmas.{AreSeniors}
 
 -- each item of the list is met where the map sends its place
@@ -115,9 +115,9 @@ goal_both order same goal users = (
   where
     back : (needs : List Need) × IsOneOf (goal_requirements order goal) needs × (IsPossible needs × Meets users needs) → GoalMet order.edges goal users
     back one =
-        let long = each_is (λ needs. length needs ≡ length goal) (goal_requirements order goal) one.0 one.1.0 (ways_long order goal) one.1.1 in
+        let long = each_at (λ needs. length needs ≡ length goal) (goal_requirements order goal) one.1.0 one.0 (ways_long order goal) one.1.1 in
         record {
           to = one.2.1.to;
           apart = λ i j li lj e. one.2.1.apart i j (subst (λ n. i < n) (sym long) li) (subst (λ n. j < n) (sym long) lj) e;
-          each = ways_goal order same users one.2.1.to goal (some_at (IsWay users one.2.1.to (length goal)) (goal_requirements order goal) one.0 one.1 (long, one.2.1.each));
+          each = ways_goal order same users one.2.1.to goal (some_one_at (IsWay users one.2.1.to (length goal)) (goal_requirements order goal) one.0 one.1 (long, one.2.1.each));
         }

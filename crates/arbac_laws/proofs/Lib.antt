@@ -1,6 +1,4 @@
-pub mod ListLemmas
 pub mod RoleLemmas
-pub mod MapLemmas
 pub mod CoverLemmas
 pub mod ConjunctLemmas
 pub mod ExchangeLemmas
@@ -16,9 +14,7 @@ pub mod SameLemmas
 pub mod SortLemmas
 pub mod NormalLemmas
 pub mod FixedLemmas
-pub mod PlaceLemmas
 pub mod FormPlaceLemmas
-pub mod DeficientLemmas
 pub mod BarrierLemmas
 pub mod RowLemmas
 pub mod SetsLemmas

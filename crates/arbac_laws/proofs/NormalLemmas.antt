@@ -3,8 +3,8 @@ use Rattle.std.proofs.Common.{ℕ, ◌≡◌, ◌<◌, ◌≤◌, ◌+◌, List,
 use Rattle.std.specs.Prelude.{◌↔◌}
 use Rattle.std.proofs.lemmas.Bool.{eq-eqb}
 use Rattle.std.specs.List.{list_any}
-use Rattle.role_order.proofs.SetLemmas.{and_both, both_true, or_none}
-use Rattle.role_order.specs.Lists.{Each, Some_of}
+use Rattle.list_words.proofs.TestLemmas.{and_both, both_true, or_none, not_false, not_true}
+use Rattle.list_words.specs.Lists.{Each, Some_of}
 use Rattle.role_order.specs.Roles.{AreApart, IsIn, IsOut, IsWithin, has_role, is_within, less_roles}
 use Rattle.arbac_laws.specs.Needs.{Covers, CoversNeed, IsCovered, IsPossible, IsPossibleNeed, Need}
 use Rattle.arbac_laws.specs.NormalForms.{AreSets, IsNormal, IsNormalNeed, bare_hits, insert_by, is_impossible, is_less, least_hits, normal_form, normal_need, sort_by}
@@ -12,10 +12,12 @@ use Rattle.role_order.specs.Orders.{set_before}
 use Rattle.arbac_laws.specs.Orders.{need_before}
 use Rattle.arbac_laws.specs.PreImages.{is_empty}
 use Rattle.arbac_laws.proofs.CoverLemmas.{covers_itself, covers_transitive}
-use Rattle.arbac_laws.proofs.ListLemmas.{each_by, each_some, one_some, some_one, some_weaker}
-use Rattle.arbac_laws.proofs.MapLemmas.{embeds_front, embeds_itself, embeds_swap, some_cond}
-use Rattle.arbac_laws.proofs.OrderLemmas.{count, need_order}
-use Rattle.role_order.proofs.OrderLemmas.{not_false, not_true, set_order}
+use Rattle.list_words.proofs.EachLemmas.{each_by, each_some, one_some, some_one, some_weaker}
+use Rattle.list_words.proofs.EmbedLemmas.{embeds_front, embeds_itself, embeds_swap}
+use Rattle.list_words.proofs.GetLemmas.{some_cond, get_there, get_below}
+use Rattle.arbac_laws.proofs.OrderLemmas.{need_order}
+use Rattle.list_words.proofs.CountLemmas.{count}
+use Rattle.role_order.proofs.OrderLemmas.{set_order}
 use Rattle.arbac_laws.proofs.RoleLemmas.{in_less, less_in, less_out}
 use Rattle.arbac_laws.proofs.SameLemmas.{any_of, is_within_of, of_any, same_roles, within_is}
 use Rattle.arbac_laws.proofs.SortLemmas.{filter_in, in_filter, in_sort, sort_by_in, sort_in, sort_rises, sort_sorted}
@@ -23,8 +25,7 @@ use Rattle.role_order.specs.Roles.{Rises}
 use Rattle.role_order.proofs.SetLemmas.{rises-filter}
 use Rattle.arbac_laws.specs.NormalForms.{normal_form}
 use Rattle.arbac_laws.specs.Needs.{Meets, MeetsBy}
-use Rattle.arbac_laws.specs.Places.{ArePlaces}
-use Rattle.arbac_laws.proofs.MapLemmas.{get_there, get_below}
+use Rattle.list_words.specs.Places.{ArePlaces}
 use Rattle.arbac_laws.proofs.CoverLemmas.{covered_met}
 use Rattle.std.proofs.Common.{get_or, length, ◌<◌}
 

@@ -2,7 +2,7 @@
 use Rattle.std.proofs.Common.{ℕ, ◌≡◌, List, length, map, Some, None, Option, sym, subst, refl, inl, inr}
 use Rattle.std.specs.Prelude.{slice_get, slice_set, ◌⊎◌}
 use Rattle.std.specs.List.{list_any}
-use Rattle.role_order.specs.Lists.{IsOneOf, Some_of}
+use Rattle.list_words.specs.Lists.{IsOneOf, Some_of}
 use Rattle.role_order.specs.Ranges.{IsInRange}
 use Rattle.role_order.specs.Reach.{seniors_of}
 use Rattle.role_order.specs.Roles.{IsIn, has_role}
@@ -19,7 +19,7 @@ use Rattle.arbac_laws.specs.Needs.{Meets, Need}
 use Rattle.arbac_laws.specs.Obligations.{Obligation, act_of, and_then, assign_obligations, flat, flat_places, if_wanted, obligations, picks, pre_image, roles_in, weak_obligations, assigns, revokes}
 use Rattle.arbac_laws.specs.PreImages.{AssignObligation, IsPick, Pick, WeakObligation, assign_pre_image, before_assign, before_weak, weak_pre_image, with_admin}
 use Rattle.arbac_laws.proofs.ClosedLemmas.{not_reachable}
-use Rattle.arbac_laws.proofs.ListLemmas.{map_some, one_of_same, same_one_of, some_cases, some_left, some_map, some_right}
+use Rattle.list_words.proofs.EachLemmas.{map_some, one_of_same, same_one_of, some_cases, some_left, some_map, some_right}
 use Rattle.arbac_laws.proofs.StepLemmas.{assign_leads, before_assign_step, weak_leads, before_weak_step}
 use Rattle.arbac_laws.proofs.ConjunctLemmas.{AreSeniors}
 use Rattle.arbac_laws.specs.Obligations.{wanting, barring}

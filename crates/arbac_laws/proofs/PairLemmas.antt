@@ -1,8 +1,8 @@
 -- Small requirements: exclusive pairs, and what covers what.
 use Rattle.std.proofs.Common.{ℕ, ◌≡◌, List, [], ◌∷◌, Some, None, arith, zero, suc, sym, eqb, subst, refl, inl, inr}
 use Rattle.std.specs.Prelude.{slice_get}
-use Rattle.role_order.proofs.SetLemmas.{or_right}
-use Rattle.role_order.specs.Lists.{Each, IsOneOf, Some_of}
+use Rattle.list_words.proofs.TestLemmas.{or_right}
+use Rattle.list_words.specs.Lists.{Each, IsOneOf, Some_of}
 use Rattle.role_order.specs.Reach.{seniors_of}
 use Rattle.arbac_policy.specs.Truth.{both, has}
 use Rattle.arbac_policy.proofs.TermLemmas.{term_any}
@@ -14,9 +14,10 @@ use Rattle.arbac_laws.specs.NormalForms.{pre_form}
 use Rattle.arbac_laws.specs.Obligations.{Obligation, obligations, pre_image, assigns}
 use Rattle.arbac_laws.specs.PreImages.{fresh, itself}
 use Rattle.arbac_laws.specs.Rows.{mix_apart, one_admin, pair_policy, hits_both, adm, c, d, hits, hits_either, without, anyone}
-use Rattle.arbac_laws.proofs.CountLemmas.{embeds_long}
-use Rattle.arbac_laws.proofs.MapLemmas.{embeds_front, embeds_itself, embeds_none, same_some}
-use Rattle.arbac_laws.proofs.ListLemmas.{each_is}
+use Rattle.list_words.proofs.CountLemmas.{embeds_long}
+use Rattle.list_words.proofs.EmbedLemmas.{embeds_front, embeds_itself, embeds_none}
+use Rattle.list_words.proofs.GetLemmas.{same_some}
+use Rattle.list_words.proofs.EachLemmas.{each_at}
 use Rattle.arbac_laws.proofs.NormalLemmas.{none_impossible}
 use Rattle.arbac_laws.proofs.CoverLemmas.{covers_itself}
 use Rattle.arbac_laws.proofs.RowLemmas.{anyone_covers, form_of, lacks_adm, nobody_has_c}
@@ -53,10 +54,10 @@ nothing_will_do = subst (Each (λ ob. pre_form pair_policy (hits_both c d ∷ []
 
 pub both_closed : IsClosedList pair_policy one_admin (both (has c) (has d) ∷ []) ((hits_both c d ∷ []) ∷ [])
 both_closed = record {
-  goals = λ needs is possible. each_is (IsCovered list) (goal_requirements pair_policy.order (both (has c) (has d) ∷ [])) needs is.0
+  goals = λ needs is possible. each_at (IsCovered list) (goal_requirements pair_policy.order (both (has c) (has d) ∷ [])) is.0 needs
       (subst (Each (IsCovered list)) (sym both_wanted) (inl (embeds_itself CoversNeed covers_itself (hits_both c d ∷ [])), tt)) is.1;
-  pre_images = λ needs is ob at before e possible. absurd (each_is Impossible list needs is.0 (none, tt) is.1 ob at before e possible);
-  unmet = λ needs is. each_is (IsUnmet one_admin) list needs is.0 (nobody_has_c one_admin (refl, tt) ((d ∷ []) ∷ []), tt) is.1;
+  pre_images = λ needs is ob at before e possible. absurd (each_at Impossible list is.0 needs (none, tt) is.1 ob at before e possible);
+  unmet = λ needs is. each_at (IsUnmet one_admin) list is.0 needs (nobody_has_c one_admin (refl, tt) ((d ∷ []) ∷ []), tt) is.1;
 }
   where
     list : List (List Need)
@@ -67,7 +68,7 @@ both_closed = record {
 
     none : Impossible (hits_both c d ∷ [])
     none ob at before e = (none_impossible before).0 (form_of pair_policy (hits_both c d ∷ []) ob before None
-        (each_is (λ ob. pre_form pair_policy (hits_both c d ∷ []) ob ≡ None) (obligations pair_policy (hits_both c d ∷ [])) ob at.0 nothing_will_do at.1) e)
+        (each_at (λ ob. pre_form pair_policy (hits_both c d ∷ []) ob ≡ None) (obligations pair_policy (hits_both c d ∷ [])) at.0 ob nothing_will_do at.1) e)
 
 -- one user, and another that it covers
 

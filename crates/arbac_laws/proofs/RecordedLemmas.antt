@@ -2,8 +2,8 @@
 use Rattle.std.proofs.Common.{ℕ, ◌≡◌, ◌<◌, List, [], ◌∷◌, Some, arith, zero, suc, sym, ◌∙◌, subst, inl, inr, take}
 use Rattle.std.specs.Prelude.{slice_get, ◌⊎◌}
 use Rattle.role_order.proofs.ClosureLemmas.{take_taken}
-use Rattle.role_order.proofs.ListLemmas.{get_take, get_taken}
-use Rattle.role_order.specs.Lists.{Each}
+use Rattle.list_words.proofs.GetLemmas.{get_take, get_taken}
+use Rattle.list_words.specs.Lists.{Each}
 use Rattle.arbac_policy.specs.Rules.{Rules}
 use Rattle.arbac_policy.specs.Truth.{Term}
 use Rattle.arbac_policy.specs.declared.profile.Profile.{Profile}
@@ -13,8 +13,9 @@ use Rattle.arbac_laws.specs.NormalForms.{AreSets, IsNormal, IsNormalNeed}
 use Rattle.arbac_laws.specs.Recorded.{Entry, IsEntry, IsRecordedList, IsOrigin, Origin, of_goal, of_parent}
 use Rattle.arbac_laws.proofs.ConjunctLemmas.{AreSeniors}
 use Rattle.arbac_laws.proofs.CoverLemmas.{covers_itself}
-use Rattle.arbac_laws.proofs.ListLemmas.{each_is, some_at, some_map}
-use Rattle.arbac_laws.proofs.MapLemmas.{compare, embeds_itself}
+use Rattle.list_words.proofs.EachLemmas.{each_at, some_one_at, some_map}
+use Rattle.list_words.proofs.NumberLemmas.{compare}
+use Rattle.list_words.proofs.EmbedLemmas.{embeds_itself}
 use Rattle.arbac_laws.proofs.NormalLemmas.{form_is_normal}
 use Rattle.arbac_laws.proofs.SetsLemmas.{goal_sets, sets_kept}
 
@@ -32,7 +33,7 @@ entry_normal rules same profiles goal list recorded (suc n) place entry l at =
   where
     by_origin : (origin : Origin) (needs : List Need) → IsOrigin rules goal (take place list) origin needs
         → ((p : ℕ) (parent : Entry) → p < n → slice_get list p ≡ Some parent → IsNormal parent.needs) → Each AreSets needs
-    by_origin (of_goal number) needs named before = each_is (Each AreSets) (goal_requirements rules.order goal) needs number (goal_sets rules.order goal) named
+    by_origin (of_goal number) needs named before = each_at (Each AreSets) (goal_requirements rules.order goal) number needs (goal_sets rules.order goal) named
     by_origin (of_parent p ob) needs named before =
         let there = get_taken list place p named.0 named.1 in
         let less = there.0 in
@@ -54,7 +55,7 @@ pub not_covering : (rules : Rules) (profiles : List Profile) (goal : List Term) 
     → (i j : ℕ) (a b : Entry) → slice_get list i ≡ Some a → slice_get list j ≡ Some b → i < j → Covers a.needs b.needs → ⊥
 not_covering rules profiles goal list recorded i j a b at there l covers =
     (recorded j b there).uncovered (some_map (λ (e : Entry). e.needs) (λ one. Covers one b.needs) (take j list)
-    (some_at (λ (e : Entry). Covers e.needs b.needs) (take j list) a (i, get_take list j i l ∙ at) covers))
+    (some_one_at (λ (e : Entry). Covers e.needs b.needs) (take j list) a (i, get_take list j i l ∙ at) covers))
 
 pub entries_different : (rules : Rules) (profiles : List Profile) (goal : List Term) (list : List Entry) → IsRecordedList rules profiles goal list
     → (i j : ℕ) (a b : Entry) → slice_get list i ≡ Some a → slice_get list j ≡ Some b → a.needs ≡ b.needs → i ≡ j

@@ -1,7 +1,7 @@
 -- A list recorded for the small policy.
 use Rattle.std.proofs.Common.{ℕ, ◌≡◌, [], ◌∷◌, Some, zero, suc, sym, ap, subst, refl, inl, inr}
 use Rattle.std.specs.Prelude.{slice_get, take}
-use Rattle.role_order.specs.Lists.{Some_of}
+use Rattle.list_words.specs.Lists.{Some_of}
 use Rattle.role_order.specs.Roles.{IsWithin, less_roles}
 use Rattle.arbac_policy.specs.Truth.{has}
 use Rattle.arbac_laws.specs.Needs.{Covers, CoversNeed, IsCovered, Need}
@@ -9,7 +9,7 @@ use Rattle.arbac_laws.specs.Obligations.{assigns}
 use Rattle.arbac_laws.specs.PreImages.{fresh}
 use Rattle.arbac_laws.specs.Rows.{mix, adm, c, hits, without, two_admins, mix_entries}
 use Rattle.arbac_laws.specs.Recorded.{Entry, IsEntry, IsRecordedList, of_goal, of_parent}
-use Rattle.arbac_laws.proofs.MapLemmas.{same_some}
+use Rattle.list_words.proofs.GetLemmas.{same_some}
 use Rattle.arbac_laws.proofs.RowLemmas.{goal_is, first_obligations, first_before, nobody_has_c, nobody_lacks_adm}
 
 pub first_not_covering : Covers (hits c ∷ []) (without adm ∷ hits adm ∷ []) → ⊥

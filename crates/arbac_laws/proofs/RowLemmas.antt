@@ -2,7 +2,7 @@
 use Rattle.std.proofs.Common.{ℕ, ◌≡◌, ◌≤◌, List, [], ◌∷◌, length, Some, None, Option, arith, zero, suc, sym, ◌∙◌, ap, eqb, true, subst, refl, inl, inr}
 use Rattle.std.specs.Prelude.{slice_get}
 use Rattle.std.proofs.lemmas.Bool.{eq-eqb}
-use Rattle.role_order.specs.Lists.{Each}
+use Rattle.list_words.specs.Lists.{Each}
 use Rattle.role_order.specs.Reach.{seniors_of}
 use Rattle.role_order.specs.Roles.{IsIn}
 use Rattle.arbac_policy.specs.Rules.{Rules}
@@ -19,14 +19,15 @@ use Rattle.arbac_laws.specs.Obligations.{Obligation, and_then, obligations, pre_
 use Rattle.arbac_laws.specs.PreImages.{itself, other, fresh}
 use Rattle.arbac_laws.specs.Rows.{mix, adm, c, hits, without, anyone, one_admin, mix_needs}
 use Rattle.arbac_laws.proofs.BarrierLemmas.{drawn_profile}
-use Rattle.arbac_laws.proofs.CountLemmas.{embeds_long}
+use Rattle.list_words.proofs.CountLemmas.{embeds_long}
 use Rattle.arbac_laws.proofs.CoverLemmas.{covers_itself}
-use Rattle.arbac_laws.proofs.ListLemmas.{each_is}
-use Rattle.arbac_laws.proofs.MapLemmas.{embeds_front, embeds_itself, embeds_none, same_some}
+use Rattle.list_words.proofs.EachLemmas.{each_at}
+use Rattle.list_words.proofs.EmbedLemmas.{embeds_front, embeds_itself, embeds_none}
+use Rattle.list_words.proofs.GetLemmas.{same_some}
 use Rattle.arbac_laws.proofs.NormalLemmas.{covered_alike, none_impossible}
 use Rattle.std.proofs.Common.{false, true}
 use Rattle.std.proofs.lemmas.Bool.{eqb-true}
-use Rattle.role_order.proofs.SetLemmas.{or_cases}
+use Rattle.list_words.proofs.TestLemmas.{or_cases}
 use Rattle.std.specs.Prelude.{◌⊎◌}
 
 pub lacks_adm : term_of (Lacks adm) ≡ lacks adm
@@ -145,7 +146,7 @@ pub has_adm_alone : (profiles : List Profile) → Each (λ (profile : Profile). 
     → (i : ℕ) (set : List ℕ) → slice_get users i ≡ Some set → set ≡ adm ∷ []
 has_adm_alone profiles all users drawn i set at =
     let d = drawn_profile profiles drawn.choice users drawn.are_users i set at in
-    d.3 ∙ each_is (λ (profile : Profile). profile.set ≡ adm ∷ []) profiles d.1 d.0 all d.2
+    d.3 ∙ each_at (λ (profile : Profile). profile.set ≡ adm ∷ []) profiles d.0 d.1 all d.2
 
 pub nobody_has_c : (profiles : List Profile) → Each (λ (profile : Profile). profile.set ≡ adm ∷ []) profiles → (more : List (List ℕ))
     → IsUnmet profiles (record { hits = (c ∷ []) ∷ more; lacks = [] } ∷ [])
@@ -172,10 +173,10 @@ two_users a b users drawn f = let few = few_users users drawn in let long = embe
 
 pub mix_closed : IsClosedList mix one_admin (has c ∷ []) mix_needs
 mix_closed = record {
-  goals = λ needs is possible. each_is (IsCovered mix_needs) (goal_requirements mix.order (has c ∷ [])) needs is.0
+  goals = λ needs is possible. each_at (IsCovered mix_needs) (goal_requirements mix.order (has c ∷ [])) is.0 needs
       (subst (Each (IsCovered mix_needs)) (sym goal_is) (inl (embeds_itself CoversNeed covers_itself (hits c ∷ [])), tt)) is.1;
   pre_images = λ needs is ob at before e possible.
-      let all = each_is (λ needs. Each (IsMet needs) (obligations mix needs)) mix_needs needs is.0 (first_met, (second_met, (third_met, tt))) is.1 in
-      each_is (IsMet needs) (obligations mix needs) ob at.0 all at.1 before e possible;
-  unmet = λ needs is. each_is (IsUnmet one_admin) mix_needs needs is.0 (nobody_has_c one_admin (refl, tt) [], (two_users (without adm) (hits adm), (two_users anyone (hits adm), tt))) is.1;
+      let all = each_at (λ needs. Each (IsMet needs) (obligations mix needs)) mix_needs is.0 needs (first_met, (second_met, (third_met, tt))) is.1 in
+      each_at (IsMet needs) (obligations mix needs) at.0 ob all at.1 before e possible;
+  unmet = λ needs is. each_at (IsUnmet one_admin) mix_needs is.0 needs (nobody_has_c one_admin (refl, tt) [], (two_users (without adm) (hits adm), (two_users anyone (hits adm), tt))) is.1;
 }

@@ -3,21 +3,23 @@ use Rattle.std.proofs.Common.{ℕ, ◌≡◌, ◌≤◌, ◌+◌, List, [], ◌�
 use Rattle.std.specs.Prelude.{◌⊎◌}
 use Rattle.std.proofs.lemmas.Bool.{eqb-true, eq-eqb}
 use Rattle.std.specs.List.{list_any, list_all}
-use Rattle.role_order.proofs.SetLemmas.{and_both, both_true, or_cases, or_right}
-use Rattle.role_order.specs.Lists.{Each, Some_of}
+use Rattle.list_words.proofs.TestLemmas.{and_both, both_true, or_cases, or_right, not_false, not_true, same_test}
+use Rattle.list_words.specs.Lists.{Each, Some_of}
 use Rattle.role_order.specs.Roles.{AreApart, IsIn, IsOut, IsWithin, has_role, is_within, less_roles}
 use Rattle.arbac_laws.specs.Needs.{Covers, CoversNeed, Need}
 use Rattle.arbac_laws.specs.NormalForms.{IsNormal, IsNormalNeed}
 use Rattle.role_order.specs.Orders.{set_before}
 use Rattle.arbac_laws.specs.Orders.{need_before}
-use Rattle.arbac_laws.proofs.CountLemmas.{counted, embeds_with}
+use Rattle.arbac_laws.proofs.CountLemmas.{embeds_with}
+use Rattle.list_words.proofs.CountLemmas.{counted, count}
 use Rattle.arbac_laws.proofs.CoverLemmas.{covers_itself, covers_need}
-use Rattle.arbac_laws.proofs.ListLemmas.{each_own, each_some, each_weaker, some_each}
-use Rattle.arbac_laws.proofs.OrderLemmas.{AreIn, count, is_same, need_order, rising_same, same_itself, sorted_same}
-use Rattle.role_order.proofs.OrderLemmas.{not_false, not_true, set_order}
+use Rattle.list_words.proofs.EachLemmas.{each_own, each_some, each_weaker, some_each}
+use Rattle.arbac_laws.proofs.OrderLemmas.{need_order}
+use Rattle.list_words.proofs.OrderLemmas.{AreIn, is_same, rising_same, same_itself, sorted_same}
+use Rattle.role_order.proofs.OrderLemmas.{set_order}
 use Rattle.arbac_laws.proofs.RoleLemmas.{cases_in, in_less}
 use Rattle.role_order.specs.Roles.{Rises}
-use Rattle.role_order.proofs.SetLemmas.{same_set, same_test}
+use Rattle.role_order.proofs.SetLemmas.{same_set}
 
 -- tests
 

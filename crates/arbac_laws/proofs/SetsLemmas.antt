@@ -4,7 +4,7 @@ use Rattle.std.specs.Prelude.{slice_set, ◌⊎◌, filter}
 use Rattle.role_order.proofs.ReachLemmas.{rises_seniors}
 use Rattle.role_order.proofs.SetLemmas.{rises-filter, rises-join_roles}
 use Rattle.role_order.specs.Graph.{Graph}
-use Rattle.role_order.specs.Lists.{Each, IsOneOf}
+use Rattle.list_words.specs.Lists.{Each, IsOneOf}
 use Rattle.role_order.specs.Reach.{seniors_of}
 use Rattle.role_order.specs.Roles.{Rises, has_role, join_roles, without_role}
 use Rattle.arbac_policy.specs.Rules.{Rules}
@@ -16,9 +16,9 @@ use Rattle.arbac_laws.specs.NormalForms.{AreSets}
 use Rattle.arbac_laws.specs.Obligations.{Obligation, obligations, pre_image}
 use Rattle.arbac_laws.specs.PreImages.{Pick, add_hit, barred, before_assign, before_weak, change_at, has_alone, is_barred, with_admin, itself, other, fresh}
 use Rattle.arbac_laws.proofs.ConjunctLemmas.{AreSeniors}
-use Rattle.arbac_laws.proofs.ListLemmas.{each_append, each_is}
+use Rattle.list_words.proofs.EachLemmas.{each_append, each_at}
 use Rattle.arbac_laws.proofs.ObligationLemmas.{IsAssigning, IsRevoking, in_parts}
-use Rattle.arbac_laws.proofs.MapLemmas.{some_cond}
+use Rattle.list_words.proofs.GetLemmas.{some_cond}
 
 pub join_sets : (a b : Need) → AreSets a → AreSets b → AreSets (join_needs a b)
 join_sets a b m n = record { hits = each_append Rises a.hits b.hits m.hits n.hits; lacks = rises-join_roles a.lacks b.lacks n.lacks }
@@ -109,12 +109,12 @@ sets_kept rules same needs sets ob is before e = by_parts (in_parts rules same n
     by_parts : IsAssigning rules needs ob before ⊎ IsRevoking rules needs ob before → Each AreSets before
     by_parts (inl p) =
         let d = p.parts in
-        let conjunct = each_is AreSets (conjuncts rules.order (term_of d.rule.cond)) d.conjunct d.is_conjunct.0 (conjunct_sets rules.order (term_of d.rule.cond)) d.is_conjunct.1 in
-        let target = assign_sets rules d.conjunct d.need d.before d.role conjunct (each_is AreSets needs d.need d.target sets d.need_is) d.before_is in
+        let conjunct = each_at AreSets (conjuncts rules.order (term_of d.rule.cond)) d.is_conjunct.0 d.conjunct (conjunct_sets rules.order (term_of d.rule.cond)) d.is_conjunct.1 in
+        let target = assign_sets rules d.conjunct d.need d.before d.role conjunct (each_at AreSets needs d.target d.need sets d.need_is) d.before_is in
         subst (Each AreSets) p.image (admin_sets d.pick d.target (seniors_of rules.order d.rule.admin) (slice_set needs d.target d.before)
         (exchange_sets needs d.target d.before sets target) (rises_seniors rules.order d.rule.admin))
     by_parts (inr p) =
         let d = p.parts in
-        let target = weak_sets d.need d.before d.role (each_is AreSets needs d.need d.target sets d.need_is) d.before_is in
+        let target = weak_sets d.need d.before d.role (each_at AreSets needs d.target d.need sets d.need_is) d.before_is in
         subst (Each AreSets) p.image (admin_sets d.pick d.target (seniors_of rules.order d.rule.admin) (slice_set needs d.target d.before)
         (exchange_sets needs d.target d.before sets target) (rises_seniors rules.order d.rule.admin))

@@ -1,11 +1,11 @@
 -- Sorting, with and without repeats, and filters.
 use Rattle.std.proofs.Common.{◌≡◌, List, [], ◌∷◌, sym, Bool, true, false, cond, subst, refl, inl, inr}
 use Rattle.std.specs.Prelude.{◌⊎◌, filter}
-use Rattle.role_order.specs.Lists.{Each, Some_of}
-use Rattle.arbac_laws.specs.NormalForms.{AreRising, AreSorted, insert_by, insert_once, sort_by, sort_once}
-use Rattle.arbac_laws.proofs.ListLemmas.{each_by, each_some, each_weaker, some_weaker}
-use Rattle.role_order.proofs.OrderLemmas.{not_both}
-use Rattle.role_order.specs.Orders.{IsTotalOrder}
+use Rattle.list_words.specs.Lists.{Each, Some_of}
+use Rattle.arbac_laws.specs.NormalForms.{insert_by, insert_once, sort_by, sort_once}
+use Rattle.list_words.specs.Orders.{AreRising, AreSorted, IsTotalOrder}
+use Rattle.list_words.proofs.EachLemmas.{each_by, each_some, each_weaker, some_weaker}
+use Rattle.list_words.proofs.OrderLemmas.{not_both}
 
 pub filter_in : {A : Type 0} (P : A → Type 0) (p : A → Bool) (xs : List A) → Some_of P (filter p xs) → Some_of (λ x. P x × (p x ≡ true)) xs
 filter_in P p [] h = h

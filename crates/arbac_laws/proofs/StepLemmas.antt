@@ -1,7 +1,7 @@
 -- Steps and what must be met before them, both ways.
 use Rattle.std.proofs.Common.{ℕ, ◌≡◌, ◌<◌, List, [], ◌∷◌, length, Some, arith, sym, ◌∙◌, ap, subst, refl, inl, inr}
 use Rattle.std.specs.Prelude.{slice_get, slice_set, ◌⊎◌}
-use Rattle.role_order.specs.Lists.{IsOneOf, Some_of}
+use Rattle.list_words.specs.Lists.{IsOneOf, Some_of}
 use Rattle.role_order.specs.Reach.{seniors_of}
 use Rattle.role_order.specs.Roles.{HaveCommon, IsIn, IsOut, with_role, without_role}
 use Rattle.arbac_policy.specs.Rules.{Rules}
@@ -14,8 +14,9 @@ use Rattle.arbac_laws.specs.Needs.{Meets, MeetsNeed, Need}
 use Rattle.arbac_laws.specs.PreImages.{AssignObligation, IsPick, Pick, WeakObligation, admin_place, assign_pre_image, weak_pre_image, with_admin}
 use Rattle.arbac_laws.proofs.ConjunctLemmas.{common_member, conjunct_met, member_common, met_conjunct}
 use Rattle.arbac_laws.proofs.ExchangeLemmas.{Peeled, exchanged, peel, put_admin, put_target, untouched}
-use Rattle.arbac_laws.proofs.ListLemmas.{some_at, set_itself, some_item}
-use Rattle.arbac_laws.proofs.MapLemmas.{find_place, get_below, get_set_same, get_there, length_set}
+use Rattle.list_words.proofs.EachLemmas.{some_one_at, some_item}
+use Rattle.list_words.proofs.GetLemmas.{set_itself, get_below, get_set_same, get_there, length_set}
+use Rattle.list_words.proofs.EmbedLemmas.{find_place}
 use Rattle.arbac_laws.proofs.RoleLemmas.{cases_in}
 use Rattle.arbac_laws.proofs.TargetLemmas.{before_given, before_taken, given, given_kept, taken, taken_kept}
 use Rattle.arbac_laws.proofs.ConjunctLemmas.{AreSeniors}
@@ -92,10 +93,10 @@ assign_leads rules same users needs ob f = record {
     by_is = o.by_is;
     set = o.set;
     set_is = o.set_is;
-    lets = some_at (LetsAssign user rules o.by o.set ob.role) rules.assign ob.rule ob.is_rule (record {
+    lets = some_one_at (LetsAssign user rules o.by o.set ob.role) rules.assign ob.rule ob.is_rule (record {
       in_range = ob.in_range;
       by_admin = common_member rules.order same o.by ob.rule.admin o.common;
-      meets = met_conjunct rules.order same o.set (term_of ob.rule.cond) (some_at (λ c. MeetsNeed c o.set) (conjuncts rules.order (term_of ob.rule.cond)) ob.conjunct ob.is_conjunct g.1);
+      meets = met_conjunct rules.order same o.set (term_of ob.rule.cond) (some_one_at (λ c. MeetsNeed c o.set) (conjuncts rules.order (term_of ob.rule.cond)) ob.conjunct ob.is_conjunct g.1);
     });
     free = inr g.2;
     gives = refl;
@@ -128,7 +129,7 @@ weak_leads rules same users needs ob f = record {
     by_is = o.by_is;
     set = o.set;
     set_is = o.set_is;
-    lets = some_at (LetsRevoke rules o.by ob.role) rules.revoke ob.rule ob.is_rule (record {
+    lets = some_one_at (LetsRevoke rules o.by ob.role) rules.revoke ob.rule ob.is_rule (record {
       in_range = ob.in_range;
       by_admin = common_member rules.order same o.by ob.rule.admin o.common;
     });

@@ -2,7 +2,7 @@
 use Rattle.std.proofs.Common.{ℕ, ◌≡◌, List, [], ◌∷◌, ◌++◌, map, Some, sym, ◌∙◌, ap, Bool, true, false, not, ◌||◌, ◌&&◌, cond, subst, refl, inl, inr}
 use Rattle.std.specs.Prelude.{◌⊎◌, filter}
 use Rattle.role_order.specs.Graph.{Graph, Leads}
-use Rattle.role_order.specs.Lists.{Some_of}
+use Rattle.list_words.specs.Lists.{Some_of}
 use Rattle.role_order.specs.Reach.{seniors_of}
 use Rattle.role_order.specs.Roles.{AreApart, HaveCommon, IsIn, IsOut, has_role, join_roles, with_role, without_role}
 use Rattle.arbac_policy.specs.Rules.{Rules}
@@ -10,9 +10,9 @@ use Rattle.arbac_policy.specs.Steps.{Blocks}
 use Rattle.arbac_policy.specs.Truth.{IsMember}
 use Rattle.arbac_laws.specs.Needs.{HasHits, MeetsNeed, Need}
 use Rattle.arbac_laws.specs.PreImages.{barred, before_assign, before_weak, has_alone, is_barred, is_empty}
-use Rattle.role_order.proofs.SetLemmas.{or_none}
-use Rattle.arbac_laws.proofs.MapLemmas.{some_cond}
-use Rattle.arbac_laws.proofs.ListLemmas.{each_append, each_left, each_right}
+use Rattle.list_words.proofs.TestLemmas.{or_none}
+use Rattle.list_words.proofs.GetLemmas.{some_cond}
+use Rattle.list_words.proofs.EachLemmas.{each_append, each_left, each_right}
 use Rattle.arbac_laws.proofs.RoleLemmas.{apart_join, cases_in, in_join_left, in_join_right, in_with, in_with_same, in_without, with_cases, without_in}
 use Rattle.arbac_laws.proofs.ConjunctLemmas.{AreSeniors}
 

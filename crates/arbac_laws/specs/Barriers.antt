@@ -1,6 +1,6 @@
 -- Barriers: roles that no run gives to anyone, those outside what profiles and rules could give at most.
 use Rattle.std.specs.Prelude.{ℕ, ◌≡◌, not, if◌then◌else◌, List, [], ◌∷◌, filter, Some}
-use Rattle.role_order.specs.Lists.{IsOneOf}
+use Rattle.list_words.specs.Lists.{IsOneOf}
 use Rattle.role_order.specs.Roles.{has_role, IsIn, IsWithin, HaveCommon}
 use Rattle.role_order.specs.Reach.{count_up, seniors_of}
 use Rattle.role_order.specs.Ranges.{IsInRange}

@@ -1,6 +1,6 @@
 -- Closed lists of requirements: they show that a question isn't reachable.
 use Rattle.std.specs.Prelude.{ℕ, ◌≡◌, List, Some}
-use Rattle.role_order.specs.Lists.{IsOneOf}
+use Rattle.list_words.specs.Lists.{IsOneOf}
 use Rattle.arbac_policy.specs.declared.profile.Profile.{Profile}
 use Rattle.arbac_policy.specs.Truth.{Term}
 use Rattle.arbac_policy.specs.Rules.{Rules}

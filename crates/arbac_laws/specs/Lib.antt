@@ -5,7 +5,6 @@ pub mod PreImages
 pub mod Obligations
 pub mod Orders
 pub mod NormalForms
-pub mod Places
 pub mod Closed
 pub mod Recorded
 pub mod Barriers

@@ -1,8 +1,8 @@
 -- Requirements: what a population must meet, and when one requirement covers another.
 use Rattle.std.specs.Prelude.{ℕ, ◌≡◌, List}
-use Rattle.role_order.specs.Lists.{Each, Some_of}
+use Rattle.list_words.specs.Lists.{Each, Some_of}
 use Rattle.role_order.specs.Roles.{less_roles, IsIn, IsOut, IsWithin, AreApart, HaveCommon}
-use Rattle.arbac_policy.specs.Embeds.{Embeds}
+use Rattle.list_words.specs.Embeds.{Embeds}
 
 -- what is wanted of one user: of each hit at least one role, of the lacks none; a requirement is a
 -- list of these, for different users

@@ -1,7 +1,7 @@
 -- The normal form of a requirement.
-use Rattle.std.specs.Prelude.{ℕ, ◌≡◌, ◌<◌, Bool, true, ◌&&◌, not, if◌then◌else◌, List, [], ◌∷◌, map, filter, length, get_or, slice_get, Some, None, Option}
+use Rattle.std.specs.Prelude.{ℕ, ◌≡◌, ◌<◌, Bool, ◌&&◌, not, if◌then◌else◌, List, [], ◌∷◌, map, filter, length, get_or, slice_get, Some, None, Option}
 use Rattle.std.specs.List.{list_any}
-use Rattle.role_order.specs.Lists.{Each}
+use Rattle.list_words.specs.Lists.{Each}
 use Rattle.role_order.specs.Roles.{is_within, less_roles, IsIn, IsWithin, AreApart, Rises}
 use Rattle.arbac_policy.specs.Rules.{Rules}
 use Rattle.arbac_laws.specs.Needs.{Need}
@@ -9,7 +9,8 @@ use Rattle.arbac_laws.specs.PreImages.{is_empty}
 use Rattle.arbac_laws.specs.Obligations.{Obligation, and_then, pre_image}
 use Rattle.role_order.specs.Orders.{set_before}
 use Rattle.arbac_laws.specs.Orders.{need_before}
-use Rattle.arbac_laws.specs.Places.{ArePlaces}
+use Rattle.list_words.specs.Places.{ArePlaces}
+use Rattle.list_words.specs.Orders.{AreRising, AreSorted}
 
 -- put before the first item that isn't before it
 abbrev pub insert_by : {A : Type 0} → (A → A → Bool) → A → List A → List A
@@ -63,16 +64,6 @@ normal_form needs = if is_impossible needs then None else Some (sort_by need_bef
 -- the pre-image of the obligation in normal form; none where there is no pre-image or it is impossible
 abbrev pub pre_form : Rules → List Need → Obligation → Option (List Need)
 pre_form rules needs ob = and_then (pre_image rules needs ob) normal_form
-
--- each is before each later one
-abbrev pub AreRising : {A : Type 0} → (A → A → Bool) → List A → Type 0
-AreRising before [] = Unit {0}
-AreRising before (x ∷ xs) = Each (λ y. before x y ≡ true) xs × AreRising before xs
-
--- none is before an earlier one
-abbrev pub AreSorted : {A : Type 0} → (A → A → Bool) → List A → Type 0
-AreSorted before [] = Unit {0}
-AreSorted before (x ∷ xs) = Each (λ y. ¬ (before y x ≡ true)) xs × AreSorted before xs
 
 -- sets that rise; hits that have roles and no lacks, none within a different one, and sorted.
 -- A hit without a role would make the requirement impossible. All else is needed for two normal forms

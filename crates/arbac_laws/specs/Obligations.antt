@@ -1,7 +1,7 @@
 -- Obligations: the acts after which a requirement may be met, in their order, and what each wants before it.
 use Rattle.std.specs.Prelude.{ℕ, ◌≡◌, ◌+◌, ◌==◌, Bool, true, false, ◌&&◌, not, List, [], ◌∷◌, ◌++◌, map, filter, length, slice_get, slice_set, Some, None, Option}
 use Rattle.std.specs.List.{list_any}
-use Rattle.role_order.specs.Lists.{Some_of}
+use Rattle.list_words.specs.Lists.{Some_of}
 use Rattle.role_order.specs.Roles.{has_role}
 use Rattle.role_order.specs.Graph.{Graph}
 use Rattle.role_order.specs.Reach.{count_up, seniors_of}

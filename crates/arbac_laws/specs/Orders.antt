@@ -1,6 +1,7 @@
 -- The orders of lists of hits, of user requirements and of requirements.
 use Rattle.std.specs.Prelude.{Bool, ◌||◌, ◌&&◌, not, nat_lt, List, length, ℕ}
-use Rattle.role_order.specs.Orders.{list_before, set_before}
+use Rattle.role_order.specs.Orders.{set_before}
+use Rattle.list_words.specs.Orders.{list_before}
 use Rattle.arbac_laws.specs.Needs.{Need}
 
 -- lists of hits as lists of sets

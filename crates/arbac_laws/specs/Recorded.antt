@@ -1,6 +1,6 @@
 -- Recorded lists: requirements with their origins, as a search keeps them.
 use Rattle.std.specs.Prelude.{ℕ, ◌≡◌, List, map, slice_get, take, Some}
-use Rattle.role_order.specs.Lists.{IsOneOf}
+use Rattle.list_words.specs.Lists.{IsOneOf}
 use Rattle.arbac_policy.specs.declared.profile.Profile.{Profile}
 use Rattle.arbac_policy.specs.Truth.{Term}
 use Rattle.arbac_policy.specs.Rules.{Rules}

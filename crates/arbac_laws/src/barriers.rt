@@ -1,7 +1,7 @@
 //! Laws of barriers.
 
 ghost use Rattle.std.specs.Prelude.{ℕ, List, length, ◌≡◌, Some};
-ghost use Rattle.role_order.specs.Lists.{IsOneOf};
+ghost use Rattle.list_words.specs.Lists.{IsOneOf};
 ghost use Rattle.role_order.specs.Roles.{IsWithin};
 ghost use Rattle.role_order.specs.Graph.{AreEdges};
 ghost use Rattle.arbac_policy.specs.declared.profile.Profile.{Profile};

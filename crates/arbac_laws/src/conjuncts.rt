@@ -1,7 +1,7 @@
 //! The law of conjuncts.
 
 ghost use Rattle.std.specs.Prelude.{ℕ, List, length, ◌↔◌};
-ghost use Rattle.role_order.specs.Lists.{Some_of};
+ghost use Rattle.list_words.specs.Lists.{Some_of};
 ghost use Rattle.role_order.specs.Graph.{Graph, AreEdges};
 ghost use Rattle.arbac_policy.specs.Truth.{Term, user, Satisfies};
 ghost use Rattle.arbac_laws.specs.Needs.{MeetsNeed};

@@ -1,7 +1,7 @@
 //! Laws of cover.
 
 ghost use Rattle.std.specs.Prelude.{ℕ, List};
-ghost use Rattle.role_order.specs.Lists.{Some_of};
+ghost use Rattle.list_words.specs.Lists.{Some_of};
 ghost use Rattle.arbac_laws.specs.Needs.{Need, Meets, Covers, IsCovered, IsPossible};
 
 /// Cover is reflexive and transitive; where something covered is met, so is what covers it; what a

@@ -1,7 +1,7 @@
 //! The law of goal requirements.
 
 ghost use Rattle.std.specs.Prelude.{ℕ, List, length, ◌↔◌};
-ghost use Rattle.role_order.specs.Lists.{Some_of};
+ghost use Rattle.list_words.specs.Lists.{Some_of};
 ghost use Rattle.role_order.specs.Graph.{Graph, AreEdges};
 ghost use Rattle.arbac_policy.specs.Truth.{Term};
 ghost use Rattle.arbac_policy.specs.Goals.{GoalMet};

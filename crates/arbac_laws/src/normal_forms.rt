@@ -1,11 +1,12 @@
 //! Laws of normal forms.
 
 ghost use Rattle.std.specs.Prelude.{ℕ, List, get_or, ◌≡◌, ◌↔◌, ◌⊎◌, Some, None};
-ghost use Rattle.role_order.specs.Lists.{Each};
+ghost use Rattle.list_words.specs.Lists.{Each};
 ghost use Rattle.arbac_laws.specs.Orders.{need_before};
 ghost use Rattle.arbac_laws.specs.Needs.{Need, Meets, MeetsBy, Covers, IsCovered, IsPossible};
-ghost use Rattle.arbac_laws.specs.NormalForms.{normal_form, normal_need, IsNormal, AreSets, AreSorted, AreFormPlaces};
-ghost use Rattle.arbac_laws.specs.Places.{ArePlaces};
+ghost use Rattle.arbac_laws.specs.NormalForms.{normal_form, normal_need, IsNormal, AreSets, AreFormPlaces};
+ghost use Rattle.list_words.specs.Orders.{AreSorted};
+ghost use Rattle.list_words.specs.Places.{ArePlaces};
 
 /// The normal form of a requirement covers it and is covered by it, and is its own normal form; there
 /// is none exactly where the requirement is impossible, which is decided, and where there is one both

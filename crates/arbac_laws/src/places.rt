@@ -2,7 +2,7 @@
 
 ghost use Rattle.std.specs.Prelude.{ℕ, List, ◌↔◌};
 ghost use Rattle.arbac_laws.specs.Needs.{Need, MeetsNeed, Meets, CoversNeed, Covers};
-ghost use Rattle.arbac_laws.specs.Places.{ArePlaces, AreDeficient};
+ghost use Rattle.list_words.specs.Places.{ArePlaces, AreDeficient};
 
 /// A population meets a requirement, or a requirement covers another, exactly where a list of places
 /// says so.

@@ -1,7 +1,7 @@
 //! Laws of pre-images: they are exact both ways.
 
 ghost use Rattle.std.specs.Prelude.{ℕ, List, ◌≡◌, ◌⊎◌, length, Some};
-ghost use Rattle.role_order.specs.Lists.{IsOneOf};
+ghost use Rattle.list_words.specs.Lists.{IsOneOf};
 ghost use Rattle.role_order.specs.Graph.{AreEdges};
 ghost use Rattle.arbac_policy.specs.Truth.{user};
 ghost use Rattle.arbac_policy.specs.Rules.{Rules};

@@ -1,7 +1,7 @@
 //! Small policies, worked.
 
 ghost use Rattle.std.specs.Prelude.{[], ◌∷◌, ◌≡◌, length, Some, None};
-ghost use Rattle.role_order.specs.Lists.{Each};
+ghost use Rattle.list_words.specs.Lists.{Each};
 ghost use Rattle.arbac_policy.specs.Truth.{has, lacks, both};
 ghost use Rattle.arbac_policy.specs.Goals.{IsReachable};
 ghost use Rattle.arbac_laws.specs.Needs.{Meets, Covers};

@@ -1,7 +1,7 @@
 //! Laws of hits and lacks as lists.
 
 ghost use Rattle.std.specs.Prelude.{List, length, ◌≡◌, Some};
-ghost use Rattle.role_order.specs.Lists.{Each, IsOneOf};
+ghost use Rattle.list_words.specs.Lists.{Each, IsOneOf};
 ghost use Rattle.role_order.specs.Graph.{Graph, AreEdges};
 ghost use Rattle.arbac_policy.specs.Truth.{Term};
 ghost use Rattle.arbac_policy.specs.Rules.{Rules};

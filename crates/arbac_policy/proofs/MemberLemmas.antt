@@ -4,7 +4,7 @@ use Rattle.std.specs.Prelude.{◌⊎◌}
 use Rattle.std.specs.List.{list_any}
 use Rattle.std.proofs.lemmas.Bool.{eq-eqb, eqb-true}
 use Rattle.role_order.specs.Roles.{has_role, have_common, IsIn}
-use Rattle.role_order.proofs.SetLemmas.{or_cases, or_right}
+use Rattle.list_words.proofs.TestLemmas.{or_cases, or_right}
 
 -- a role of the first that is in the second
 pub common_role : (xs ys : List ℕ) → have_common xs ys ≡ true → (role : ℕ) × IsIn xs role × IsIn ys role

@@ -4,7 +4,7 @@ use Rattle.arbac_policy.specs.declared.profile.Profile.{Profile}
 use Rattle.arbac_policy.specs.declared.act.Act.{Act}
 use Rattle.arbac_policy.specs.Truth.{Term, user, Satisfies}
 use Rattle.arbac_policy.specs.Rules.{Rules}
-use Rattle.arbac_policy.specs.Embeds.{Embeds}
+use Rattle.list_words.specs.Embeds.{Embeds}
 use Rattle.arbac_policy.specs.Steps.{Run}
 
 -- how often the place stands in the choice

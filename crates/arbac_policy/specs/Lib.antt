@@ -3,6 +3,5 @@ pub mod Rules
 pub mod Policies
 pub mod Holders
 pub mod Steps
-pub mod Embeds
 pub mod Goals
 pub mod Verdicts

@@ -1,6 +1,6 @@
 -- A policy: a role order, the rules of URA97 and PRA97, and the exclusive pairs.
 use Rattle.std.specs.Prelude.{ℕ, ◌<◌, ◌^◌, List, length}
-use Rattle.role_order.specs.Lists.{Each}
+use Rattle.list_words.specs.Lists.{Each}
 use Rattle.role_order.specs.Graph.{Graph}
 use Rattle.role_order.specs.declared.range.Range.{Range}
 use Rattle.arbac_policy.specs.declared.rule.CanAssign.{CanAssign}

@@ -1,6 +1,6 @@
 -- Steps of URA97 on users and of PRA97 on permissions, and runs.
 use Rattle.std.specs.Prelude.{ℕ, ◌≡◌, List, [], ◌∷◌, ◌⊎◌, slice_get, slice_set, Some}
-use Rattle.role_order.specs.Lists.{Some_of}
+use Rattle.list_words.specs.Lists.{Some_of}
 use Rattle.role_order.specs.Roles.{with_role, without_role, IsIn}
 use Rattle.role_order.specs.Graph.{Leads}
 use Rattle.role_order.specs.Ranges.{IsInRange}

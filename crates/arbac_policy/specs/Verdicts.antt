@@ -1,6 +1,6 @@
 -- The first part of an act that fails.
 use Rattle.std.specs.Prelude.{ℕ, ◌≡◌, ◌<◌, ◌≤◌, List, [], ◌∷◌, ◌⊎◌, length, slice_get, Some, None}
-use Rattle.role_order.specs.Lists.{Some_of, IsFirst}
+use Rattle.list_words.specs.Lists.{Some_of, IsFirst}
 use Rattle.role_order.specs.Roles.{IsIn}
 use Rattle.role_order.specs.Ranges.{IsInRange}
 use Rattle.role_order.specs.declared.range.Range.{Range}

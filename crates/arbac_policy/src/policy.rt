@@ -1,7 +1,7 @@
 //! Policies.
 
 ghost use Rattle.std.specs.Prelude.{◌≡◌, ◌<◌, ◌↔◌, IsTrue, IfSome, IfNone};
-ghost use Rattle.role_order.specs.Lists.{Each};
+ghost use Rattle.list_words.specs.Lists.{Each};
 ghost use Rattle.arbac_policy.specs.Truth.{term_of, IsKnown};
 ghost use Rattle.arbac_policy.specs.Rules.{IsPolicy, AreCountable, policy_of, IsKnownRange, IsKnownAssign, IsKnownRevoke, IsKnownPair};
 

@@ -2,7 +2,7 @@
 use Rattle.std.proofs.Common.{ℕ, ◌≡◌, ◌≤◌, ◌<◌, ◌+◌, ◌∙◌, List, [], ◌∷◌, ◌++◌, length, take, get_or, Some, refl, zero, suc, ap, sym, append_assoc, arith}
 use Rattle.std.specs.List.{slice_get}
 use Rattle.std.proofs.lemmas.List.{append-nil, map_push}
-use Rattle.role_order.proofs.ListLemmas.{take_all, take_one_more}
+use Rattle.list_words.proofs.GetLemmas.{take_all, take_one_more}
 use Rattle.arbac_laws.specs.Needs.{Need}
 use Rattle.arbac_laws.specs.Conjuncts.{join_all, join_needs, join_with}
 use Rattle.arbac_rules.specs.declared.conjunct.Conjunct.{Conjunct}

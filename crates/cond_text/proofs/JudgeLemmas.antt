@@ -2,7 +2,7 @@
 use Rattle.std.proofs.Common.{◌≡◌, ℕ, ◌≤◌, ◌<◌, ◌+◌, ◌∙◌, ap, subst, sym, refl, inl, inr, ◌⊎◌, arith, Bool, true, false, cond, ◌&&◌, nat_le, List, [], ◌∷◌, ◌++◌, append_assoc, append-nil, Option, Some, None, Result, Ok, Err}
 use Rattle.std.specs.Prelude.{option_and_then}
 use Rattle.std.proofs.lemmas.Bool.Decides.{nat_tests}
-use Rattle.role_order.proofs.SetLemmas.{and_both}
+use Rattle.list_words.proofs.TestLemmas.{and_both}
 use Rattle.cond_text.specs.declared.word.Word.{Word}
 use Rattle.cond_text.specs.declared.word.Word.TheVariants.{Any, Name, Not, And, Or, Open, Close, Stray}
 use Rattle.cond_text.specs.declared.word.Placed.{Placed}

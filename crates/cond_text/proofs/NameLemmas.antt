@@ -8,10 +8,9 @@ use Rattle.std.proofs.lemmas.Bool.{false≢true}
 use Rattle.std.proofs.lemmas.Bool.Decides.{nat_tests}
 use Rattle.std.proofs.lemmas.Option.{slice_get-get_or}
 use Rattle.std.proofs.lemmas.Slice.Eq.{bytes_eq-Decides}
-use Rattle.role_order.proofs.OrderLemmas.{not_false}
-use Rattle.role_order.proofs.SetLemmas.{and_both, or_none}
-use Rattle.role_order.specs.Lists.{Each}
-use Rattle.role_order.specs.Names.{is_name_byte, is_name, is_reserved, is_role_name, place_of, AreDifferent}
+use Rattle.list_words.proofs.TestLemmas.{not_false, and_both, or_none}
+use Rattle.list_words.specs.Lists.{Each, AreDifferent}
+use Rattle.role_order.specs.Names.{is_name_byte, is_name, is_reserved, is_role_name, place_of}
 use Rattle.role_order.specs.Refusals.{AreNames}
 use Rattle.role_order.specs.declared.TheConstants.{MOST_NAME_BYTES}
 use Rattle.cond_text.specs.declared.word.Word.TheVariants.{Name}

@@ -4,7 +4,7 @@ use Rattle.std.specs.Prelude.{codes}
 use Rattle.std.specs.List.{list_all, take_while}
 use Rattle.std.proofs.lemmas.Bool.{false≢true}
 use Rattle.std.proofs.lemmas.List.Sums.{take_while-cons}
-use Rattle.role_order.proofs.SetLemmas.{and_both}
+use Rattle.list_words.proofs.TestLemmas.{and_both}
 use Rattle.role_order.specs.Names.{is_name_byte}
 use Rattle.arbac_policy.specs.Truth.{Term, IsKnown}
 use Rattle.cond_text.specs.declared.level.Level.TheVariants.{Condition}

@@ -2,11 +2,10 @@
 use Rattle.std.proofs.Common.{ℕ, ◌≡◌, ◌<◌, ◌≤◌, ◌+◌, List, [], ◌∷◌, length, get_or, map, refl, arith, zero, suc, sym, subst, ap, inl, inr, Some}
 use Rattle.std.specs.Prelude.{◌⊎◌, ◌↔◌, Contains, slice_get, replicate}
 use Rattle.std.proofs.lemmas.List.{length-replicate}
-use Rattle.role_order.proofs.ListLemmas.{get_within, get_any}
+use Rattle.list_words.proofs.GetLemmas.{get_within, get_any, get_there}
 use Rattle.arbac_policy.specs.Truth.{Term, user, Satisfies}
 use Rattle.arbac_policy.specs.Goals.{GoalMet}
-use Rattle.arbac_laws.proofs.MapLemmas.{get_there}
-use Rattle.arbac_laws.proofs.PlaceLemmas.{to_places}
+use Rattle.list_words.proofs.PlaceLemmas.{to_places}
 use Rattle.hall_match.specs.Matchings.{AreEdges, IsMatching, IsLeast}
 use Rattle.hall_match.proofs.EdgeLemmas.{HaveUpTo, HaveItems, places_whole, item_more, items_whole}
 use Rattle.hall_match.proofs.OneLemmas.{matching_apart, apart_within}
@@ -16,11 +15,6 @@ use Rattle.plan_replay.specs.GoalLists.{MeetGoal, AreLeast, IsMetBy, ArePairs}
 pub pairs_whole : (init pairs : List (ℕ × ℕ)) (place at : ℕ) (edges : List (ℕ × ℕ)) (term : Term) (sets : List (List ℕ)) → length sets ≤ at
     → HaveUpTo init pairs place at (IsMetBy edges term sets) → (k u : ℕ) → Contains pairs (k, u) ↔ (Contains init (k, u) ⊎ ((k ≡ place) × IsMetBy edges term sets u))
 pairs_whole init pairs place at edges term sets l before = places_whole init pairs place at (IsMetBy edges term sets) before (λ u h. omega (arith, (get_within sets u h.0 h.1).0))
-
-pub get-map : {A B : Type 0} (f : A → B) (xs : List A) (i : ℕ) (x : A) → slice_get xs i ≡ Some x → slice_get (map f xs) i ≡ Some (f x)
-get-map f [] i x e = cc
-get-map f (y ∷ ys) zero x e = let same : y ≡ x = cc in ap (λ v. Some (f v)) same
-get-map f (y ∷ ys) (suc i) x e = get-map f ys i x e
 
 pub length-map : {A B : Type 0} (f : A → B) (xs : List A) → length (map f xs) ≡ length xs
 length-map f [] = refl

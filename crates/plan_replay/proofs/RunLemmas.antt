@@ -2,7 +2,7 @@
 use Rattle.std.proofs.Common.{ℕ, ◌≡◌, ◌+◌, ◌∙◌, List, [], ◌∷◌, ◌++◌, take, length, refl, sym, subst, ap, zero, suc, Some}
 use Rattle.std.specs.Prelude.{slice_get, slice_set}
 use Rattle.role_order.specs.Roles.{with_role}
-use Rattle.role_order.proofs.ListLemmas.{take_one_more}
+use Rattle.list_words.proofs.GetLemmas.{take_one_more}
 use Rattle.arbac_policy.specs.declared.act.Act.{Act}
 use Rattle.arbac_policy.specs.declared.act.ActKind.{ActKind}
 use Rattle.arbac_policy.specs.declared.act.ActKind.TheVariants.{Assign, Weak, Strong}

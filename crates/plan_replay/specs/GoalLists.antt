@@ -1,7 +1,7 @@
 -- Lists of the users who meet a goal.
 use Rattle.std.specs.Prelude.{ℕ, ◌≡◌, ◌⊎◌, ◌↔◌, List, Contains, slice_get, Some}
 use Rattle.arbac_policy.specs.Truth.{Term, user, Satisfies}
-use Rattle.arbac_laws.specs.Places.{ArePlaces}
+use Rattle.list_words.specs.Places.{ArePlaces}
 use Rattle.hall_match.specs.Matchings.{IsBefore}
 
 -- different users, by place, one for each condition, each of whom meets his condition

@@ -1,7 +1,7 @@
 //! Which users meet a goal.
 
 ghost use Rattle.std.specs.Prelude.{ℕ, ◌≡◌, ◌<◌, ◌^◌, ◌⊎◌, ◌↔◌, length, map, replicate, Contains, OnOk, IfOk, IfSome, IfNone, Some};
-ghost use Rattle.role_order.specs.Lists.{Each};
+ghost use Rattle.list_words.specs.Lists.{Each};
 ghost use Rattle.arbac_policy.specs.Truth.{term_of, IsKnown};
 ghost use Rattle.arbac_policy.specs.Goals.{GoalMet};
 ghost use Rattle.plan_replay.specs.GoalLists.{AreLeast, ArePairs, IsMetBy};

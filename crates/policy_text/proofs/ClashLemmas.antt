@@ -3,7 +3,7 @@ use Rattle.std.proofs.Common.{ℕ, ◌≡◌, ◌≤◌, ◌+◌, ◌⊎◌, inl
 use Rattle.std.specs.Prelude.{codes}
 use Rattle.std.proofs.lemmas.Bool.{false≢true}
 use Rattle.role_order.specs.declared.order.OrderError.{OrderError}
-use Rattle.role_order.specs.Lists.{Each, Some_of}
+use Rattle.list_words.specs.Lists.{Each, Some_of}
 use Rattle.role_order.specs.Refusals.{IsOrder}
 use Rattle.arbac_policy.specs.Truth.{Term}
 use Rattle.cond_text.specs.declared.word.Word.{Word}

@@ -4,7 +4,7 @@ use Rattle.std.specs.Prelude.{codes}
 use Rattle.std.proofs.lemmas.Bool.{false≢true}
 use Rattle.role_order.specs.declared.order.OrderError.{OrderError}
 use Rattle.role_order.specs.declared.order.OrderError.TheVariants as refusals
-use Rattle.role_order.specs.Lists.{Each}
+use Rattle.list_words.specs.Lists.{Each}
 use Rattle.role_order.specs.Refusals.{IsOrder, IsRefused as IsRefusedOrder}
 use Rattle.cond_text.specs.declared.word.Word.{Word}
 use Rattle.cond_text.specs.declared.word.Placed.{Placed}

@@ -9,11 +9,12 @@ use Rattle.std.proofs.lemmas.Slice.Eq.{bytes_eq-Decides}
 use Rattle.role_order.specs.declared.order.OrderError.{OrderError}
 use Rattle.role_order.specs.declared.order.OrderError.TheVariants.{NoRoles, TooManyRoles, BadName, SameName, EdgeOutOfRange, Cycle, Memory}
 use Rattle.role_order.specs.declared.TheConstants.{MOST_ROLES}
-use Rattle.role_order.specs.Lists.{IsFirst}
-use Rattle.role_order.specs.Names.{place_of, is_role_name, AreDifferent}
+use Rattle.list_words.specs.Lists.{IsFirst, AreDifferent}
+use Rattle.role_order.specs.Names.{place_of, is_role_name}
 use Rattle.role_order.specs.Graph.{Leads, IsEdge, AreEdges, IsCycle}
 use Rattle.role_order.specs.Refusals.{AreRoleNames, IsOrder, IsRepeated, IsRefused}
-use Rattle.role_order.proofs.ListLemmas.{each_at, get_take, get_taken}
+use Rattle.list_words.proofs.EachLemmas.{each_at}
+use Rattle.list_words.proofs.GetLemmas.{get_take, get_taken}
 
 prefix_at : (name : List ℕ) (names : List (List ℕ)) → position_or_len (λ other. bytes_eq other name) names < length names
     → slice_get names (position_or_len (λ other. bytes_eq other name) names) ≡ Some name

@@ -2,7 +2,7 @@
 use Rattle.std.proofs.Common.{ℕ, ◌≡◌, ◌+◌, inl, inr, List, [], ◌∷◌, ◌++◌, length, refl, arith, sym, ◌∙◌, ap, subst, Some, None, map, suc, Result, Ok, Err, IfOk, IfErr}
 use Rattle.std.specs.Prelude.{codes}
 use Rattle.role_order.specs.declared.order.OrderError.TheVariants as refusals
-use Rattle.role_order.specs.Lists.{Each}
+use Rattle.list_words.specs.Lists.{Each}
 use Rattle.role_order.specs.Graph.{Graph}
 use Rattle.arbac_policy.specs.Rules.{IsPolicy, AreCountable, policy_of}
 use Rattle.role_order.specs.Names.{texts}

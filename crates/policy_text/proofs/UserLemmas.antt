@@ -3,8 +3,9 @@ use Rattle.std.proofs.Common.{ℕ, ◌≡◌, ◌<◌, ◌≤◌, ◌+◌, List,
 use Rattle.std.specs.Prelude.{slice_get}
 use Rattle.role_order.specs.Names.{place_of}
 use Rattle.role_order.specs.Roles.{with_role}
-use Rattle.role_order.specs.Lists.{Some_of}
-use Rattle.role_order.proofs.ListLemmas.{take_one_more, take_all, some_at}
+use Rattle.list_words.specs.Lists.{Some_of}
+use Rattle.list_words.proofs.GetLemmas.{take_one_more, take_all}
+use Rattle.list_words.proofs.EachLemmas.{some_at}
 use Rattle.policy_text.specs.Runs.{Names, NameEach, NamesSet}
 use Rattle.policy_text.specs.Faults.{IsUnknown}
 

@@ -2,7 +2,7 @@
 use Rattle.std.specs.Prelude.{ℕ, ◌≡◌, ◌+◌, ◌⊎◌, true, false, List, [], ◌∷◌, length, None, codes, Result, Ok, Err}
 use Rattle.role_order.specs.declared.order.OrderError.{OrderError}
 use Rattle.role_order.specs.declared.order.OrderError.TheVariants as refusals
-use Rattle.role_order.specs.Lists.{Some_of}
+use Rattle.list_words.specs.Lists.{Some_of}
 use Rattle.role_order.specs.Names.{place_of}
 use Rattle.role_order.specs.Refusals.{IsOrder, IsRefused as IsRefusedOrder}
 use Rattle.cond_text.specs.declared.cond_error.CondError.{CondError}

@@ -2,7 +2,7 @@
 use Rattle.std.specs.Prelude.{ℕ, ◌≡◌, ◌+◌, ◌<◌, ◌≤◌, List, [], ◌∷◌, ◌++◌, map, fold, length, Some, Result, Ok, Err, codes}
 use Rattle.role_order.specs.declared.range.Range.{Range}
 use Rattle.role_order.specs.declared.TheConstants.{MOST_ROLES}
-use Rattle.role_order.specs.Lists.{Each}
+use Rattle.list_words.specs.Lists.{Each}
 use Rattle.role_order.specs.Names.{place_of}
 use Rattle.role_order.specs.Roles.{with_role}
 use Rattle.role_order.specs.Refusals.{IsOrder}

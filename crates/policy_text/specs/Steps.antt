@@ -3,7 +3,7 @@ use Rattle.std.specs.Prelude.{ℕ, ◌≡◌, List, [], ◌∷◌, ◌++◌, ◌
 use Rattle.role_order.specs.declared.order.OrderError.TheVariants as refusals
 use Rattle.role_order.specs.Refusals.{IsOrder, IsRefused}
 use Rattle.role_order.specs.Graph.{Graph}
-use Rattle.role_order.specs.Lists.{Each}
+use Rattle.list_words.specs.Lists.{Each}
 use Rattle.role_order.specs.Names.{texts}
 use Rattle.arbac_policy.specs.Truth.{term_of}
 use Rattle.cond_text.specs.declared.cond_error.CondError.TheVariants as conditions

@@ -9,7 +9,7 @@ ghost use Rattle.policy_text.specs.LineForms.{an_assign, a_revoke, a_user, an_ac
 ghost use Rattle.policy_text.specs.Runs.{Adds, ReadsAs, NamesRange, NamesSet, behind_edges, behind_assigns, behind_revokes, behind_users, behind_acts};
 ghost use Rattle.policy_text.specs.Faults.{HasUnknownEnd, IsUnknown, IsLineFault, EndsOrder};
 ghost use Rattle.policy_text.specs.Steps.{body_view, run_view, order_view, IsFormFault, IsTextFault, AddsLine, EndsWith, IsBodyFault};
-ghost use Rattle.role_order.specs.Lists.{Some_of};
+ghost use Rattle.list_words.specs.Lists.{Some_of};
 ghost use Rattle.role_order.specs.Refusals.{IsOrder};
 
 use crate::line::{Line, NamedRange, read_line};

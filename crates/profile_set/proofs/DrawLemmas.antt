@@ -3,7 +3,7 @@ use Rattle.std.proofs.lemmas.Bool.{eqb-true}
 use Rattle.std.proofs.lemmas.Bool.Decides.{nat_tests}
 use Rattle.std.proofs.Common.{ℕ, ◌≡◌, ◌<◌, ◌≤◌, ◌+◌, Bool, true, false, eqb, ltb, List, [], ◌∷◌, ◌++◌, length, take, refl, arith, zero, suc, sym, subst, ap, ◌∙◌, inl, inr, Option, Some, None}
 use Rattle.std.specs.Prelude.{slice_get, ◌⊎◌, ◌==◌, if◌then◌else◌}
-use Rattle.role_order.proofs.ListLemmas.{get_last, take_one_more}
+use Rattle.list_words.proofs.GetLemmas.{get_last_cases, take_one_more}
 use Rattle.arbac_policy.specs.declared.profile.Profile.{Profile}
 use Rattle.arbac_policy.specs.Goals.{times, IsDrawnChoice}
 use Rattle.profile_set.specs.Draws.{IsSpent, is_below, has_left}
@@ -38,7 +38,7 @@ left_below profile most used e h = let below : ltb used most ≡ true = ap (λ o
 -- a drawn choice, and a number of which something is left
 pub drawn_last : (profiles : List Profile) (xs : List ℕ) (x : ℕ) → IsDrawnChoice profiles xs → has_left (slice_get profiles x) (times x xs) ≡ true → IsDrawnChoice profiles (xs ++ x ∷ [])
 drawn_last profiles xs x drawn left = record {
-  places = λ k place e. by_place place (get_last xs x place k e);
+  places = λ k place e. by_place place (get_last_cases xs x place k e);
   few = λ place profile most e m. by_same place profile most e m (eqb x place) refl;
 }
   where

@@ -5,11 +5,12 @@ use Rattle.std.specs.Str.{bytes_eq}
 use Rattle.std.specs.List.Sorted.{IsPartitionedBy}
 use Rattle.std.proofs.lemmas.Bool.{false≢true}
 use Rattle.std.proofs.lemmas.Slice.Eq.{bytes_eq-Decides}
-use Rattle.role_order.specs.Lists.{Each, Some_of}
+use Rattle.list_words.specs.Lists.{Each, Some_of}
 use Rattle.role_order.specs.Orders.{set_before}
-use Rattle.role_order.proofs.ListLemmas.{each_at, get_at, take_one_more}
-use Rattle.role_order.proofs.OrderLemmas.{set_order, not_false}
-use Rattle.role_order.proofs.SetLemmas.{each_weaker}
+use Rattle.list_words.proofs.EachLemmas.{each_at, each_weaker}
+use Rattle.list_words.proofs.GetLemmas.{get_at, take_one_more}
+use Rattle.role_order.proofs.OrderLemmas.{set_order}
+use Rattle.list_words.proofs.TestLemmas.{not_false}
 use Rattle.arbac_policy.specs.declared.profile.Profile.{Profile}
 use Rattle.profile_set.specs.Groups.{holders, RiseBySet, IsGroup}
 use Rattle.profile_set.specs.Tallies.{number_of, tally, IsCounted, HasRoom, IsTally, with_one, first_of, with_member}
@@ -63,7 +64,7 @@ rise_with set (p ∷ ps) h = go (set_before p.set set) (set_before set p.set) re
   where
     go : (s t : Bool) → set_before p.set set ≡ s → set_before set p.set ≡ t → RiseBySet (with_member ps set) → RiseBySet (cond s (p ∷ with_member ps set) (cond t (first_of set ∷ p ∷ ps) (with_one p ∷ ps)))
     go true t e f more = (keep p.set set ps h.0 e, more)
-    go false true e f more = ((f, each_weaker (λ q. set_before p.set q.set ≡ true) (λ q. set_before set q.set ≡ true) ps (λ q b. set_order.through set p.set q.set f b) h.0), h)
+    go false true e f more = ((f, each_weaker (λ q. set_before p.set q.set ≡ true) (λ q. set_before set q.set ≡ true) (λ q b. set_order.through set p.set q.set f b) ps h.0), h)
     go false false e f more = h
 
 counted_with : (set : List ℕ) (ps : List Profile) → Each IsCounted ps → Each IsCounted (with_member ps set)
@@ -153,7 +154,7 @@ told_each (p ∷ ps) r h =
 
 each_held : (members : List (List ℕ)) → Each (λ set. 1 ≤ holders set members) members
 each_held [] = tt
-each_held (m ∷ ms) = (rw ((bytes_eq-Decides m m).1 refl) (omega arith), each_weaker (λ set. 1 ≤ holders set ms) (λ set. 1 ≤ holders set (m ∷ ms)) ms (λ set h. omega (arith, h)) (each_held ms))
+each_held (m ∷ ms) = (rw ((bytes_eq-Decides m m).1 refl) (omega arith), each_weaker (λ set. 1 ≤ holders set ms) (λ set. 1 ≤ holders set (m ∷ ms)) (λ set h. omega (arith, h)) ms (each_held ms))
 
 tally_some : (x : List ℕ) (ps : List Profile) → 1 ≤ tally x ps → Some_of (λ p. p.set ≡ x) ps
 tally_some x [] h = absurd (omega arith)
@@ -166,8 +167,8 @@ tally_some x (p ∷ ps) h = go (bytes_eq p.set x) refl h (tally_some x ps)
 pub group_of : (members : List (List ℕ)) (ps : List Profile) → IsTally members ps → IsGroup members ps
 group_of members ps h = record {
   rise = h.rise;
-  counts = each_weaker (IsTold ps) (λ p. (p.most ≡ Some (holders p.set members)) × (1 ≤ holders p.set members)) ps (λ p t. rw (h.tallies p.set) at t) (told_each ps h.rise h.counted);
-  all = each_weaker (λ set. 1 ≤ holders set members) (λ set. Some_of (λ p. p.set ≡ set) ps) members (λ set k. tally_some set ps (let same = h.tallies set in omega (arith, same, k))) (each_held members);
+  counts = each_weaker (IsTold ps) (λ p. (p.most ≡ Some (holders p.set members)) × (1 ≤ holders p.set members)) (λ p t. rw (h.tallies p.set) at t) ps (told_each ps h.rise h.counted);
+  all = each_weaker (λ set. 1 ≤ holders set members) (λ set. Some_of (λ p. p.set ≡ set) ps) (λ set k. tally_some set ps (let same = h.tallies set in omega (arith, same, k))) members (each_held members);
 }
 
 -- one group
@@ -196,7 +197,7 @@ told_or_none h (p ∷ ps) r k x = go (bytes_eq p.set x) refl (told_or_none h ps 
 tally_of : (members : List (List ℕ)) (ps : List Profile) → IsGroup members ps → IsTally members ps
 tally_of members ps g = record {
   rise = g.rise;
-  counted = each_weaker (λ p. (p.most ≡ Some (holders p.set members)) × (1 ≤ holders p.set members)) IsCounted ps (λ p c. (holders p.set members, c.0, c.1)) g.counts;
+  counted = each_weaker (λ p. (p.most ≡ Some (holders p.set members)) × (1 ≤ holders p.set members)) IsCounted (λ p c. (holders p.set members, c.0, c.1)) ps g.counts;
   tallies = λ x. elim (told_or_none (λ s. holders s members) ps g.rise g.counts x) [ inl t ↦ t | inr n ↦ n.0 ∙ sym (no_holder x ps members g.all n.1) ];
 }
 
@@ -210,7 +211,7 @@ ahead p q ps qs r c b same =
     let (count, is, some) = c in
     let head = tally_head p ps in
     let number : number_of p.most ≡ count = ap number_of is in
-    let none = none_after p.set (q ∷ qs) (b, each_weaker (λ r. set_before q.set r.set ≡ true) (λ r. set_before p.set r.set ≡ true) qs (λ r k. set_order.through p.set q.set r.set b k) r) in
+    let none = none_after p.set (q ∷ qs) (b, each_weaker (λ r. set_before q.set r.set ≡ true) (λ r. set_before p.set r.set ≡ true) (λ r k. set_order.through p.set q.set r.set b k) qs r) in
     omega (arith, head, number, some, none, same)
 
 tallies_one : (a b : List Profile) → RiseBySet a → RiseBySet b → Each IsCounted a → Each IsCounted b → ((x : List ℕ) → tally x a ≡ tally x b) → a ≡ b

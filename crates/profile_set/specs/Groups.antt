@@ -1,7 +1,7 @@
 -- Users grouped by their sets.
 use Rattle.std.specs.Prelude.{ℕ, ◌≡◌, ◌≤◌, ◌+◌, true, if◌then◌else◌, List, [], ◌∷◌, Some}
 use Rattle.std.specs.Str.{bytes_eq}
-use Rattle.role_order.specs.Lists.{Each, Some_of}
+use Rattle.list_words.specs.Lists.{Each, Some_of}
 use Rattle.role_order.specs.Orders.{set_before}
 use Rattle.arbac_policy.specs.declared.profile.Profile.{Profile}
 

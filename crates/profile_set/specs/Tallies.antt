@@ -1,7 +1,7 @@
 -- Counts of users by set, as they grow with each user.
 use Rattle.std.specs.Prelude.{ℕ, ◌≡◌, ◌≤◌, ◌<◌, ◌+◌, ◌^◌, if◌then◌else◌, List, [], ◌∷◌, Option, Some, None}
 use Rattle.std.specs.Str.{bytes_eq}
-use Rattle.role_order.specs.Lists.{Each}
+use Rattle.list_words.specs.Lists.{Each}
 use Rattle.role_order.specs.Orders.{set_before}
 use Rattle.arbac_policy.specs.declared.profile.Profile.{Profile}
 use Rattle.profile_set.specs.Groups.{RiseBySet, holders}

@@ -1,7 +1,7 @@
 //! Users grouped by their sets.
 
 ghost use Rattle.std.specs.Prelude.{ℕ, ◌≡◌, ◌<◌, ◌≤◌, ◌+◌, ◌^◌, true, false, List, length, slice_get, Some, IfOk, OnOk};
-ghost use Rattle.role_order.specs.Lists.{Each};
+ghost use Rattle.list_words.specs.Lists.{Each};
 ghost use Rattle.role_order.specs.Orders.{set_before};
 ghost use Rattle.arbac_policy.specs.declared.profile.Profile.{Profile};
 ghost use Rattle.profile_set.specs.Groups.{RiseBySet, IsGroup};

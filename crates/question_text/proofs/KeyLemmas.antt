@@ -7,7 +7,7 @@ use Rattle.std.proofs.lemmas.Bool.Decides.{nat_tests}
 use Rattle.toml.specs.Data.{Data, Members, member}
 use Rattle.toml.specs.View.{view, items_view}
 use Rattle.toml.specs.declared.value.Value.{Value}
-use Rattle.role_order.proofs.ListLemmas.{get_at}
+use Rattle.list_words.proofs.GetLemmas.{get_at}
 use Rattle.question_text.specs.Outcomes.{Fault, Outcome, too_many}
 use Rattle.question_text.specs.Answers.{IsToldBy}
 use Rattle.question_text.proofs.OutcomeLemmas.{same_ok, entries_stop, entries_more, entries_all}

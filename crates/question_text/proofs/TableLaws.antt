@@ -10,7 +10,7 @@ use Rattle.std.proofs.Math.Nat.{mul_assoc}
 use Rattle.std.proofs.lemmas.List.{length-map}
 use Rattle.toml.specs.Data.{Data, Members, as_str, get_member}
 use Rattle.role_order.specs.declared.range.Range.{Range}
-use Rattle.role_order.specs.Lists.{Each}
+use Rattle.list_words.specs.Lists.{Each}
 use Rattle.role_order.specs.Names.{place_of}
 use Rattle.role_order.specs.Roles.{IsIn, with_role}
 use Rattle.role_order.proofs.SetLemmas.{rises-with_role}

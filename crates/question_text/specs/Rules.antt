@@ -1,6 +1,6 @@
 -- The limits and rules that a question keeps.
 use Rattle.std.specs.Prelude.{ℕ, ◌≡◌, ◌<◌, ◌≤◌, ◌*◌, true, false, List, [], ◌∷◌, length, Option, Some, None}
-use Rattle.role_order.specs.Lists.{Each}
+use Rattle.list_words.specs.Lists.{Each}
 use Rattle.role_order.specs.Roles.{AreBelow, Rises}
 use Rattle.role_order.specs.Refusals.{IsOrder}
 use Rattle.arbac_policy.specs.declared.rule.CanRevoke.{CanRevoke}

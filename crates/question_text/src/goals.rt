@@ -2,7 +2,7 @@
 
 ghost use Rattle.std.specs.Prelude.{◌≤◌, IfOk, codes, length, map};
 ghost use Rattle.toml.specs.View.{table_view, array_view, view};
-ghost use Rattle.role_order.specs.Lists.{Each};
+ghost use Rattle.list_words.specs.Lists.{Each};
 ghost use Rattle.arbac_policy.specs.Truth.{term_of};
 ghost use Rattle.cond_text.specs.Grammar.{term_count};
 ghost use Rattle.question_text.specs.Outcomes.{seen_as};

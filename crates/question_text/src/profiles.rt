@@ -2,7 +2,7 @@
 
 ghost use Rattle.std.specs.Prelude.{◌≤◌, IfOk, codes, length};
 ghost use Rattle.toml.specs.View.{table_view, array_view, view};
-ghost use Rattle.role_order.specs.Lists.{Each};
+ghost use Rattle.list_words.specs.Lists.{Each};
 ghost use Rattle.question_text.specs.Keys.{list_of, entries};
 ghost use Rattle.question_text.specs.Rules.{IsProfile};
 ghost use Rattle.question_text.specs.Tables.{a_profile, profiles as profiles_of};

@@ -5,9 +5,9 @@ use Rattle.std.proofs.lemmas.Bool.Decides.{nat_tests}
 use Rattle.std.proofs.lemmas.Option.{none-some}
 use Rattle.role_order.specs.declared.range.Range.{Range}
 use Rattle.role_order.specs.Graph.{AreAcyclic}
-use Rattle.role_order.specs.Lists.{Each}
+use Rattle.list_words.specs.Lists.{Each}
 use Rattle.role_order.specs.Refusals.{AreNames, IsOrder}
-use Rattle.role_order.proofs.SetLemmas.{each_weaker}
+use Rattle.list_words.proofs.EachLemmas.{each_weaker}
 use Rattle.arbac_policy.specs.declared.rule.CanRevoke.{CanRevoke}
 use Rattle.arbac_policy.specs.declared.profile.Profile.{Profile}
 use Rattle.arbac_policy.specs.Truth.{Term}
@@ -145,7 +145,7 @@ module _ (names : List (List ℕ)) (ok : AreNames names) where
       → profiles names found (Ok list)
   are_profiles found list e h =
       are_tables MOST_PROFILES (a_profile names) (profile_row names) list found (codes "profile") e h.0
-      (each_weaker (IsProfile (length names)) (λ profile. (at : List ℕ) → a_profile names at (row_data (profile_row names profile)) (Ok profile)) list is_profile h.1)
+      (each_weaker (IsProfile (length names)) (λ profile. (at : List ℕ) → a_profile names at (row_data (profile_row names profile)) (Ok profile)) is_profile list h.1)
 
   -- ---- the goal
 
@@ -160,7 +160,7 @@ module _ (names : List (List ℕ)) (ok : AreNames names) where
       let list = ap Ok (sym (list_items texts)) in
       let few = are_few MOST_GOALS (codes "goal") (condition_data names) goal h.0 in
       let read = are_read (a_goal_condition names) (condition_data names) (codes "goal") goal
-      (each_weaker (IsCondition (length names)) (λ t. (at : List ℕ) → a_goal_condition names at (condition_data names t) (Ok t)) goal is_goal_condition h.1) in
+      (each_weaker (IsCondition (length names)) (λ t. (at : List ℕ) → a_goal_condition names at (condition_data names t) (Ok t)) is_goal_condition goal h.1) in
       inr (texts, list, inr (tt, few, inr (goal, read, inr (tt, is_narrow_goal 1 goal (omega arith), refl))))
 
   pub is_the_goal : (need : Bool) (found : Members) (goal : List Term) → get_member (codes "goal") found ≡ list_or_none (condition_data names) goal → (need ≡ true → ¬ (goal ≡ []))

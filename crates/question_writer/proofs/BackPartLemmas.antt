@@ -7,12 +7,13 @@ use Rattle.std.proofs.Math.Nat.{mul-le-mul_left, mul_assoc}
 use Rattle.std.proofs.lemmas.Nat.{mul-le}
 use Rattle.std.proofs.lemmas.Bool.Decides.{nat_tests}
 use Rattle.std.proofs.lemmas.Slice.Eq.{bytes_eq-Decides}
-use Rattle.role_order.specs.Lists.{Each}
+use Rattle.list_words.specs.Lists.{Each}
 use Rattle.role_order.specs.Names.{place_of}
 use Rattle.role_order.specs.Refusals.{AreNames}
 use Rattle.role_order.specs.Roles.{has_role, with_role, Rises}
 use Rattle.role_order.proofs.ClosureLemmas.{length_mapped}
-use Rattle.role_order.proofs.SetLemmas.{each_weaker, has_role-with_role, rises-with_role, same_set}
+use Rattle.role_order.proofs.SetLemmas.{has_role-with_role, rises-with_role, same_set}
+use Rattle.list_words.proofs.EachLemmas.{each_weaker}
 use Rattle.arbac_policy.specs.Truth.{Term, any, has, lacks, both, either}
 use Rattle.arbac_policy.specs.Rules.{IsKnownPair}
 use Rattle.arbac_rules.specs.Widths.{width}
@@ -136,7 +137,7 @@ set_itself set h = same_set (set_of set) set (rises-fold [] set tt) h (λ q. has
 pub is_role_set : (names : List (List ℕ)) → AreNames names → (set : List ℕ) → IsSet (length names) set → (path : List ℕ) → role_set names path (map (role_data names) set) (Ok set)
 is_role_set names ok set h path =
     let roles = are_read (a_role names) (role_data names) path set
-    (each_weaker (λ role. role < length names) (λ role. (at : List ℕ) → a_role names at (role_data names role) (Ok role)) set (λ role below. is_a_role names ok role below) (each_below (length names) set h.below)) in
+    (each_weaker (λ role. role < length names) (λ role. (at : List ℕ) → a_role names at (role_data names role) (Ok role)) (λ role below. is_a_role names ok role below) set (each_below (length names) set h.below)) in
     inr (set, roles, ap Ok (sym (set_itself set h.rises)))
 
 none_mixed : (admins : List ℕ) (pairs : List (ℕ × ℕ)) → Each (λ pair. is_mixed admins pair ≡ false) pairs → position (is_mixed admins) pairs ≡ None

@@ -9,7 +9,7 @@ use Rattle.std.proofs.lemmas.Map.Text.{is_eq-slice_cmp}
 use Rattle.std.proofs.lemmas.Option.{none-some}
 use Rattle.std.proofs.lemmas.Slice.Eq.{bytes_eq-Decides}
 use Rattle.std.proofs.lemmas.Str.{IsUtf8-append, IsUtf8-nil}
-use Rattle.role_order.specs.Lists.{Each}
+use Rattle.list_words.specs.Lists.{Each}
 use Rattle.toml_writer.specs.Text.{key_text}
 use Rattle.toml.specs.Data.{Data, array, table, Items, no_items, push_item, Members, get_member, same_key, depth, has_valid_dates}
 use Rattle.toml.specs.Tables.{Node, Nodes, no_nodes, node, open_array, get_node, insert, replace, close, close_node, Document, Expression, key_value, array_table, define, put, along_header, at_key}

@@ -8,10 +8,10 @@ use Rattle.std.specs.Str.{IsUtf8}
 use Rattle.std.proofs.lemmas.List.Folds.{flat_map-map}
 use Rattle.std.proofs.lemmas.Str.{IsUtf8-append}
 use Rattle.role_order.specs.declared.range.Range.{Range}
-use Rattle.role_order.specs.Lists.{Each}
+use Rattle.list_words.specs.Lists.{Each}
 use Rattle.role_order.specs.Refusals.{AreNames}
 use Rattle.role_order.specs.Roles.{AreBelow}
-use Rattle.role_order.proofs.SetLemmas.{each_weaker}
+use Rattle.list_words.proofs.EachLemmas.{each_weaker}
 use Rattle.role_order.specs.Names.{is_role_name}
 use Rattle.std.proofs.lemmas.Fmt.{decimal_digit}
 use Rattle.arbac_policy.specs.declared.rule.CanRevoke.{CanRevoke}
@@ -53,10 +53,10 @@ list_item : {A : Type 0} (most : ℕ) (view : A → Data) (text : A → List ℕ
 list_item {A} most view text xs h =
     let P : A → Type 0 = λ x. IsItem most (view x) (text x) in
     record {
-      text = list_text view text xs (each_weaker P (λ x. IsValueText false (view x) (text x)) xs (λ x i. i.text) h);
-      flat = list_depth view most xs (each_weaker P (λ x. depth (view x) ≤ most) xs (λ x i. i.flat) h);
-      dated = list_dated view xs (each_weaker P (λ x. has_valid_dates (view x) ≡ true) xs (λ x i. i.dated) h);
-      utf8 = listed_utf8 text xs (each_weaker P (λ x. IsUtf8 (text x)) xs (λ x i. i.utf8) h);
+      text = list_text view text xs (each_weaker P (λ x. IsValueText false (view x) (text x)) (λ x i. i.text) xs h);
+      flat = list_depth view most xs (each_weaker P (λ x. depth (view x) ≤ most) (λ x i. i.flat) xs h);
+      dated = list_dated view xs (each_weaker P (λ x. has_valid_dates (view x) ≡ true) (λ x i. i.dated) xs h);
+      utf8 = listed_utf8 text xs (each_weaker P (λ x. IsUtf8 (text x)) (λ x i. i.utf8) xs h);
     }
 
 abbrev pub entry : List ℕ → Data → List ℕ → Entry
@@ -206,7 +206,7 @@ module _ (names : List (List ℕ)) (ok : AreNames names) where
   most_item (Some most) h = number_item most (omega arith)
 
   set_items : (set : List ℕ) → AreBelow (length names) set → Each (λ role. IsItem 0 (role_data names role) (role_text names role)) set
-  set_items set below = each_weaker (λ role. role < length names) (λ role. IsItem 0 (role_data names role) (role_text names role)) set role_item (each_below (length names) set below)
+  set_items set below = each_weaker (λ role. role < length names) (λ role. IsItem 0 (role_data names role) (role_text names role)) role_item set (each_below (length names) set below)
 
   set_item : (set : List ℕ) → IsSet (length names) set → IsItem 1 (list_data (role_data names) set) (listed (role_text names) set)
   set_item set h = list_item 0 (role_data names) (role_text names) set (set_items set h.below)
@@ -289,7 +289,7 @@ module _ (names : List (List ℕ)) (ok : AreNames names) where
   exclusive_written [] h = tt
   exclusive_written (pair ∷ pairs) h = (
     is_entry 2 (codes "exclusive") _ _ (omega arith) refl refl (list_item 1 (pair_data names) (pair_text names) (pair ∷ pairs)
-        (each_weaker (IsPair (length names)) (λ p. IsItem 1 (pair_data names p) (pair_text names p)) (pair ∷ pairs) (λ p k. pair_item names ok p k.known) h)),
+        (each_weaker (IsPair (length names)) (λ p. IsItem 1 (pair_data names p) (pair_text names p)) (λ p k. pair_item names ok p k.known) (pair ∷ pairs) h)),
     tt,
   )
 
@@ -298,7 +298,7 @@ module _ (names : List (List ℕ)) (ok : AreNames names) where
   goal_written [] h = tt
   goal_written (cond ∷ conds) h = (
     is_entry 1 (codes "goal") _ _ (omega arith) refl refl (list_item 0 (condition_data names) (condition_text names) (cond ∷ conds)
-        (each_weaker (IsCondition (length names)) (λ t. IsItem 0 (condition_data names t) (condition_text names t)) (cond ∷ conds) (λ t k. condition_item names ok t k.known) h)),
+        (each_weaker (IsCondition (length names)) (λ t. IsItem 0 (condition_data names t) (condition_text names t)) (λ t k. condition_item names ok t k.known) (cond ∷ conds) h)),
     tt,
   )
 
@@ -306,8 +306,8 @@ pub top_written : (q : QuestionValue) → KeepsRules q → Each IsEntry (top q)
 unfolding key_text
 top_written q h =
     let ok = h.order.are_names in
-    let name_items = each_weaker (λ name. is_role_name name ≡ true) (λ name. IsItem 0 (string name) (quoted name)) q.names (λ name k. string_item name (name_plain name k)) ok.named in
-    let edge_items = each_weaker (IsKnownPair (length q.names)) (λ p. IsItem 1 (pair_data q.names p) (pair_text q.names p)) q.edges (λ p k. pair_item q.names ok p k) h.order.ends in (
+    let name_items = each_weaker (λ name. is_role_name name ≡ true) (λ name. IsItem 0 (string name) (quoted name)) (λ name k. string_item name (name_plain name k)) q.names ok.named in
+    let edge_items = each_weaker (IsKnownPair (length q.names)) (λ p. IsItem 1 (pair_data q.names p) (pair_text q.names p)) (λ p k. pair_item q.names ok p k) q.edges h.order.ends in (
       is_entry 0 (codes "version") _ _ (omega arith) refl refl (version_item q.exclusive),
       (
         is_entry 0 (codes "separate") _ _ (omega arith) refl refl (truth_item q.separate),

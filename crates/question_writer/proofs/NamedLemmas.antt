@@ -6,11 +6,12 @@ use Rattle.std.specs.Str.{bytes_eq}
 use Rattle.role_order.specs.declared.range.Range.{Range}
 use Rattle.role_order.specs.Names.{is_name, is_reserved, is_role_name, place_of}
 use Rattle.role_order.specs.Refusals.{AreNames}
-use Rattle.role_order.specs.Lists.{Each}
+use Rattle.list_words.specs.Lists.{Each}
 use Rattle.role_order.specs.Roles.{AreBelow, has_role}
-use Rattle.role_order.proofs.SetLemmas.{or_right}
+use Rattle.list_words.proofs.TestLemmas.{or_right}
 use Rattle.std.proofs.lemmas.Bool.{eq-eqb}
-use Rattle.role_order.proofs.ListLemmas.{each_at, get_at}
+use Rattle.list_words.proofs.EachLemmas.{each_at}
+use Rattle.list_words.proofs.GetLemmas.{get_at}
 use Rattle.arbac_policy.specs.Truth.{Term, IsKnown}
 use Rattle.arbac_policy.specs.Rules.{IsKnownRange}
 use Rattle.cond_text.specs.declared.level.Level.TheVariants.{Condition}

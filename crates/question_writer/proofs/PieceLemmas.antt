@@ -4,7 +4,7 @@ use Rattle.std.specs.Prelude.{slice_get, codes, map, if◌then◌else◌, ◌==�
 use Rattle.std.specs.List.{flat_map, join_by}
 use Rattle.std.proofs.lemmas.Bool.{eqb-true}
 use Rattle.std.proofs.lemmas.Bool.Decides.{nat_tests}
-use Rattle.role_order.specs.Lists.{Each}
+use Rattle.list_words.specs.Lists.{Each}
 use Rattle.role_order.specs.Roles.{has_role, Rises}
 use Rattle.role_order.proofs.SetLemmas.{has_role-below}
 use Rattle.arbac_policy.specs.declared.profile.Profile.{Profile}
@@ -83,11 +83,6 @@ joined_end item xs place old front text new end e h f =
     let none : joined_from item place (drop place xs) ≡ [] = ap (joined_from item place) (drop_all xs place end) ∙ joined_none item place in
     f ∙ ap (λ t. t ++ codes "]") (finished text (joined_from item place (drop place xs)) (front ++ join_by item (codes ", ") xs) none h ∙ ap (λ t. t ++ join_by item (codes ", ") xs) e)
     ∙ append_assoc (old ++ codes "[") (join_by item (codes ", ") xs) (codes "]") ∙ append_assoc old (codes "[") (join_by item (codes ", ") xs ++ codes "]")
-
-pub get_map : {A B : Type 0} (f : A → B) (xs : List A) (k : ℕ) (x : A) → slice_get xs k ≡ Some x → slice_get (map f xs) k ≡ Some (f x)
-get_map f [] k x e = cc
-get_map f (y ∷ ys) zero x e = let same : y ≡ x = cc in ap (λ z. Some (f z)) same
-get_map f (y ∷ ys) (suc k) x e = get_map f ys k x e
 
 pub name_at : (names : List (List ℕ)) (role : ℕ) (name : List ℕ) → Some name ≡ slice_get names role → name ≡ get_or names role []
 name_at [] role name e = cc

@@ -9,9 +9,9 @@ use Rattle.std.proofs.Math.Nat.{max-le}
 use Rattle.std.proofs.lemmas.Bool.Decides.{nat_tests}
 use Rattle.std.proofs.lemmas.Fmt.{IsAscii-decimal}
 use Rattle.std.proofs.lemmas.Str.{IsUtf8-from_ascii, IsUtf8-append}
-use Rattle.role_order.specs.Lists.{Each}
+use Rattle.list_words.specs.Lists.{Each}
 use Rattle.role_order.specs.Names.{is_name_byte}
-use Rattle.role_order.proofs.SetLemmas.{and_both}
+use Rattle.list_words.proofs.TestLemmas.{and_both}
 use Rattle.toml_parser.specs.Lexical.{is_non_eol}
 use Rattle.toml_writer.specs.Text.{string_text, encoding_of, escaped, needs_escape, quotes_after, is_control}
 use Rattle.toml.specs.Data.{Data, array, Items, no_items, item, push_item, depth, items_depth, has_valid_dates}

@@ -4,7 +4,7 @@ use Rattle.std.specs.Prelude.{codes, map, ◌==◌}
 use Rattle.std.specs.Str.{IsUtf8}
 use Rattle.std.proofs.lemmas.Str.{is_utf8-from_IsUtf8}
 use Rattle.role_order.specs.Names.{is_role_name}
-use Rattle.role_order.proofs.SetLemmas.{each_weaker}
+use Rattle.list_words.proofs.EachLemmas.{each_weaker}
 use Rattle.arbac_policy.specs.Rules.{IsKnownPair}
 use Rattle.arbac_policy.specs.Truth.{term_of}
 use Rattle.policy_text.specs.declared.TheConstants.{MOST_EDGES}
@@ -33,7 +33,7 @@ module _ (q : QuestionValue) (h : KeepsRules q) (found : Members) (is : IsTableO
   are_names : role_names found (Ok q.names)
   are_names =
       let list = is_required as_list found [] (codes "roles") (list_data string q.names) (map string q.names) is.has_roles (as_list_data string q.names) in
-      let each = each_weaker (λ name. is_role_name name ≡ true) (λ name. (at : List ℕ) → a_text at (string name) (Ok name)) q.names (λ name k at. refl) h.order.are_names.named in
+      let each = each_weaker (λ name. is_role_name name ≡ true) (λ name. (at : List ℕ) → a_text at (string name) (Ok name)) (λ name k at. refl) q.names h.order.are_names.named in
       let read = are_read a_text string (codes "roles") q.names each in
       inr (map string q.names, list, inr (q.names, read, inr (tt, inl (no_edges q.names h.order.are_names, refl), refl)))
 
@@ -48,7 +48,7 @@ module _ (q : QuestionValue) (h : KeepsRules q) (found : Members) (is : IsTableO
   are_listed =
       let view = pair_data q.names in
       let read = are_read (an_edge q.names) view (codes "edges") q.edges
-      (each_weaker (IsKnownPair (length q.names)) (λ pair. (at : List ℕ) → an_edge q.names at (pair_data q.names pair) (Ok pair)) q.edges (is_an_edge q.names h.order.are_names) h.order.ends) in
+      (each_weaker (IsKnownPair (length q.names)) (λ pair. (at : List ℕ) → an_edge q.names at (pair_data q.names pair) (Ok pair)) (is_an_edge q.names h.order.are_names) q.edges h.order.ends) in
       let list = is_listed view q.edges found [] (codes "edges") is.has_edges in
       let few = are_few MOST_EDGES (codes "edges") view q.edges h.edges in
       let apart = are_not_mixed q.separate q.admin_roles (codes "edges") q.edges (λ e. (h.apart e).edges) in
@@ -62,7 +62,7 @@ module _ (q : QuestionValue) (h : KeepsRules q) (found : Members) (is : IsTableO
       let view = pair_data q.names in
       let fits = holds_not _ (wrong_kind (codes "exclusive")) (fits_version q.names q.exclusive _ is.has_exclusive) in
       let read = are_read (a_pair q.names) view (codes "exclusive") q.exclusive
-      (each_weaker (IsPair (length q.names)) (λ pair. (at : List ℕ) → a_pair q.names at (pair_data q.names pair) (Ok pair)) q.exclusive (is_a_pair q.names h.order.are_names) h.exclusive.1) in
+      (each_weaker (IsPair (length q.names)) (λ pair. (at : List ℕ) → a_pair q.names at (pair_data q.names pair) (Ok pair)) (is_a_pair q.names h.order.are_names) q.exclusive h.exclusive.1) in
       let list = is_optional view q.exclusive found [] (codes "exclusive") is.has_exclusive in
       let few = are_few MOST_PAIRS (codes "exclusive") view q.exclusive h.exclusive.0 in
       let apart = are_not_mixed q.separate q.admin_roles (codes "exclusive") q.exclusive (λ e. (h.apart e).exclusive) in

@@ -2,7 +2,7 @@
 
 ghost use Rattle.std.specs.Prelude.{Bool, ◌≡◌, ◌<◌, ◌++◌, [], true, map, OnOk, IfOk, length, Ok, codes};
 ghost use Rattle.std.specs.List.{flat_map};
-ghost use Rattle.role_order.specs.Lists.{Each};
+ghost use Rattle.list_words.specs.Lists.{Each};
 ghost use Rattle.arbac_policy.specs.Truth.{term_of, IsKnown};
 ghost use Rattle.arbac_policy.specs.Rules.{IsKnownAssign, IsKnownRevoke, IsKnownPair, IsKnownRange};
 ghost use Rattle.policy_text.specs.Runs.{plain_rule};

@@ -3,13 +3,12 @@ use Rattle.std.proofs.Common.{ℕ, ◌≡◌, ◌<◌, ◌∙◌, Bool, true, fa
 use Rattle.std.specs.Prelude.{◌↔◌, Contains, slice_get, replicate, IsTrue}
 use Rattle.std.specs.List.{list_all, list_any}
 use Rattle.std.proofs.lemmas.List.{length-replicate}
-use Rattle.role_order.proofs.ListLemmas.{get_within, get_any}
-use Rattle.role_order.proofs.SetLemmas.{and_both, both_true}
+use Rattle.list_words.proofs.GetLemmas.{get_within, get_any, get_there}
+use Rattle.list_words.proofs.TestLemmas.{and_both, both_true}
 use Rattle.role_order.specs.Roles.{less_roles, is_within}
 use Rattle.arbac_laws.specs.Needs.{Need, CoversNeed, Covers}
-use Rattle.arbac_laws.specs.Places.{ArePlaces}
-use Rattle.arbac_laws.proofs.MapLemmas.{get_there}
-use Rattle.arbac_laws.proofs.PlaceLemmas.{to_places}
+use Rattle.list_words.specs.Places.{ArePlaces}
+use Rattle.list_words.proofs.PlaceLemmas.{to_places}
 use Rattle.arbac_laws.proofs.SameLemmas.{covers_test, covers_of_test, test_of_covers}
 use Rattle.hall_match.specs.Matchings.{AreEdges, IsMatching}
 use Rattle.hall_match.proofs.OneLemmas.{matching_apart, apart_within}

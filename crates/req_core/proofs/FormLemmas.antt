@@ -3,16 +3,17 @@ use Rattle.std.proofs.Common.{ℕ, ◌≡◌, ◌<◌, ◌≤◌, ◌∙◌, Boo
 use Rattle.std.specs.Prelude.{slice_get, insert, None}
 use Rattle.std.specs.List.{list_any}
 use Rattle.std.proofs.lemmas.Bool.Decides.{nat_tests}
-use Rattle.role_order.specs.Lists.{Each}
-use Rattle.role_order.proofs.ListLemmas.{each_of, get_any, get_within}
+use Rattle.list_words.specs.Lists.{Each}
+use Rattle.list_words.proofs.EachLemmas.{each_of}
+use Rattle.list_words.proofs.GetLemmas.{get_any, get_within, get_below, get_there, some_cond}
 use Rattle.arbac_laws.specs.Needs.{Need}
 use Rattle.arbac_laws.specs.Orders.{need_before}
 use Rattle.arbac_laws.specs.PreImages.{is_empty}
-use Rattle.arbac_laws.specs.NormalForms.{AreFormPlaces, AreSorted, IsNormal, IsNormalNeed, bare_hits, insert_by, is_impossible, normal_form, normal_need, sort_by}
+use Rattle.arbac_laws.specs.NormalForms.{AreFormPlaces, IsNormal, IsNormalNeed, bare_hits, insert_by, is_impossible, normal_form, normal_need, sort_by}
+use Rattle.list_words.specs.Orders.{AreSorted}
 use Rattle.arbac_laws.proofs.FormPlaceLemmas.{are_places, goes, one_form_place, places_of, pushed, spot}
-use Rattle.arbac_laws.proofs.MapLemmas.{get_below, get_there, some_cond}
 use Rattle.arbac_laws.proofs.OrderLemmas.{need_order}
-use Rattle.arbac_laws.proofs.PlaceLemmas.{told}
+use Rattle.list_words.proofs.PlaceLemmas.{told}
 use Rattle.arbac_laws.proofs.SortLemmas.{insert_by_in, sort_sorted}
 use Rattle.req_core.specs.declared.raw.RawUser.{RawUser}
 use Rattle.req_core.specs.Forms.{IsPlaced, moved}

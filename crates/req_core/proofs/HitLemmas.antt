@@ -2,13 +2,13 @@
 use Rattle.std.proofs.Common.{ℕ, ◌≡◌, ◌<◌, ◌≤◌, ◌∙◌, Bool, true, false, not, cond, List, [], ◌∷◌, length, map, Some, zero, suc, refl, ap, sym, subst, arith, take, drop}
 use Rattle.std.specs.Prelude.{◌||◌, None, slice_get, insert, filter}
 use Rattle.std.specs.List.{list_any}
-use Rattle.role_order.specs.Lists.{Each}
+use Rattle.list_words.specs.Lists.{Each}
 use Rattle.role_order.specs.Roles.{Rises, less_roles, is_within}
 use Rattle.arbac_laws.specs.Needs.{IsPossibleNeed, Need}
 use Rattle.arbac_laws.specs.PreImages.{is_empty}
 use Rattle.arbac_laws.specs.NormalForms.{AreSets, IsNormalNeed, bare_hits, insert_once, least_hits, normal_need, sort_once}
 use Rattle.role_order.specs.Orders.{set_before}
-use Rattle.arbac_laws.proofs.MapLemmas.{some_cond}
+use Rattle.list_words.proofs.GetLemmas.{some_cond}
 use Rattle.arbac_laws.proofs.NormalLemmas.{normal_is_normal, not_possible}
 
 pub within_none : (xs : List ℕ) → is_within xs [] ≡ is_empty xs

@@ -4,8 +4,7 @@ use Rattle.std.specs.Prelude.{◌⊎◌, IsTrue}
 use Rattle.std.specs.List.{list_all}
 use Rattle.std.proofs.lemmas.Bool.{eqb-true, eq-eqb}
 use Rattle.role_order.specs.Roles.{has_role, have_common, IsIn, HaveCommon}
-use Rattle.role_order.proofs.OrderLemmas.{not_false}
-use Rattle.role_order.proofs.SetLemmas.{or_cases, or_right}
+use Rattle.list_words.proofs.TestLemmas.{not_false, or_cases, or_right}
 use Rattle.arbac_laws.specs.Needs.{Need, MeetsNeed}
 use Rattle.arbac_laws.proofs.SameLemmas.{all_each, each_all}
 

@@ -1,16 +1,14 @@
 -- A matching of user requirements and profiles is a choice that serves the requirement.
 use Rattle.std.proofs.Common.{ℕ, ◌≡◌, ◌<◌, ◌≤◌, ◌+◌, ◌∙◌, true, cond, List, [], ◌∷◌, length, get_or, refl, arith, zero, suc, sym, subst, ap, Some}
 use Rattle.std.specs.Prelude.{◌↔◌, ◌==◌, Contains, slice_get}
-use Rattle.role_order.proofs.ListLemmas.{get_within, get_any, get_at}
+use Rattle.list_words.proofs.GetLemmas.{get_within, get_any, get_at, get_there}
 use Rattle.arbac_policy.specs.declared.profile.Profile.{Profile}
-use Rattle.arbac_policy.specs.Embeds.{Embeds}
+use Rattle.list_words.specs.Embeds.{Embeds}
 use Rattle.arbac_policy.specs.Goals.{times, AreUsers, IsDrawn}
 use Rattle.arbac_laws.specs.Needs.{Need, MeetsNeed, Meets, MeetsBy}
 use Rattle.arbac_laws.specs.Closed.{IsUnmet}
-use Rattle.arbac_laws.proofs.CountLemmas.{counted}
-use Rattle.arbac_laws.proofs.MapLemmas.{get_there}
-use Rattle.arbac_laws.proofs.OrderLemmas.{count}
-use Rattle.arbac_laws.proofs.PlaceLemmas.{told, length-told, get-told}
+use Rattle.list_words.proofs.CountLemmas.{counted, count}
+use Rattle.list_words.proofs.PlaceLemmas.{told, length-told, get-told}
 use Rattle.hall_match.proofs.CountLemmas.{count-cons}
 use Rattle.hall_match.specs.Matchings.{AreEdges, capacity_at, uses, IsMatching, IsLeast, IsDeficient}
 use Rattle.req_core.specs.Serving.{IsServed, Serves, ServesLeast, counts, AreServing, AreUnserved}

@@ -4,7 +4,7 @@ ghost use Rattle.std.specs.Prelude.{◌≡◌, ◌↔◌, ◌<◌, ◌^◌, leng
 ghost use Rattle.std.specs.List.{list_any, list_all};
 ghost use Rattle.role_order.specs.Roles.{less_roles, is_within};
 ghost use Rattle.arbac_laws.specs.Needs.{CoversNeed, Covers};
-ghost use Rattle.arbac_laws.specs.Places.{ArePlaces};
+ghost use Rattle.list_words.specs.Places.{ArePlaces};
 ghost use Rattle.req_core.specs.Covering.{CoversAt, AreCovering};
 
 use crate::pairs::{Edges, pairs_where, small};

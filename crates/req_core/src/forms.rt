@@ -1,7 +1,7 @@
 //! The normal form of a requirement.
 
 ghost use Rattle.std.specs.Prelude.{ℕ, ◌≡◌, ◌<◌, ◌≤◌, ◌+◌, ◌^◌, true, false, List, ◌∷◌, length, map, slice_get, Some, IfOk, IfSome, OnOk};
-ghost use Rattle.role_order.specs.Lists.{Each};
+ghost use Rattle.list_words.specs.Lists.{Each};
 ghost use Rattle.arbac_laws.specs.Needs.{Need};
 ghost use Rattle.arbac_laws.specs.Orders.{need_before};
 ghost use Rattle.arbac_laws.specs.NormalForms.{normal_form, normal_need, insert_by, AreFormPlaces};

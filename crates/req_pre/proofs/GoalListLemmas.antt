@@ -6,7 +6,7 @@ use Rattle.std.proofs.lemmas.List.{append-nil, length-append, map_push}
 use Rattle.std.proofs.Math.Nat.{mul-le-mul, le_trans, mul_assoc, zero-mul, suc-mul}
 use Rattle.std.proofs.Math.Pow.{pow_mono}
 use Rattle.role_order.specs.Graph.{Graph}
-use Rattle.role_order.proofs.ListLemmas.{get_at, get_last, take_one_more}
+use Rattle.list_words.proofs.GetLemmas.{get_at, get_last_cases, take_one_more}
 use Rattle.role_order.proofs.ClosureLemmas.{length_mapped}
 use Rattle.arbac_policy.specs.declared.cond.Cond.{Cond}
 use Rattle.arbac_policy.specs.Truth.{Term, term_of}
@@ -114,7 +114,7 @@ pub placed_more : (goals : List (List Need)) (forms new : List (Option Normal)) 
     → AreGoalPlaces goals forms → length forms ≡ i → slice_get goals i ≡ Some needs
     → IfSome form (λ n. AreFormPlaces needs n.req n.places.items) → new ≡ forms ++ form ∷ [] → AreGoalPlaces goals new
 placed_more goals forms new i needs form before long at placed grown number others normal g e =
-    by_side (get_last forms form (Some normal) number (sym (ap (λ l. slice_get l number) grown) ∙ e))
+    by_side (get_last_cases forms form (Some normal) number (sym (ap (λ l. slice_get l number) grown) ∙ e))
   where
     by_side : (slice_get forms number ≡ Some (Some normal)) ⊎ ((number ≡ length forms) × (form ≡ Some normal)) → AreFormPlaces others normal.req normal.places.items
     by_side (inl old) = before number others normal g old

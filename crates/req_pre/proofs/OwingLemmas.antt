@@ -2,7 +2,7 @@
 use Rattle.std.proofs.Common.{ℕ, ◌≡◌, ◌≤◌, ◌<◌, ◌+◌, ◌-◌, ◌∙◌, Bool, true, false, not, List, [], ◌∷◌, ◌++◌, length, map, drop, Some, refl, zero, suc, ap, sym, append_assoc, arith, eqb}
 use Rattle.std.specs.Prelude.{slice_get, filter, ◌↔◌}
 use Rattle.std.proofs.lemmas.List.{append-nil, drop_more, drop_all}
-use Rattle.role_order.proofs.ListLemmas.{get_within}
+use Rattle.list_words.proofs.GetLemmas.{get_within}
 use Rattle.role_order.specs.Graph.{Graph}
 use Rattle.role_order.specs.Reach.{count_up}
 use Rattle.role_order.specs.Refusals.{IsOrder}

@@ -2,13 +2,13 @@
 use Rattle.std.proofs.Common.{ℕ, zero, suc, ◌≡◌, ◌<◌, ◌≤◌, ◌+◌, ◌∙◌, true, List, [], ◌∷◌, ◌++◌, length, map, take, get_or, Some, Vec, Global, sym, ap, arith}
 use Rattle.std.specs.Prelude.{nat_lt, slice_get}
 use Rattle.std.proofs.lemmas.Bool.Decides.{nat_tests}
-use Rattle.role_order.proofs.ListLemmas.{get_at, take_one_more}
+use Rattle.list_words.proofs.GetLemmas.{get_at, take_one_more}
 use Rattle.std.proofs.lemmas.List.{map_push}
 use Rattle.role_order.proofs.ClosureLemmas.{get_mapped}
 use Rattle.arbac_policy.specs.declared.rule.CanAssign.{CanAssign}
 use Rattle.arbac_policy.specs.Rules.{Rules}
 use Rattle.arbac_policy.specs.Truth.{term_of}
-use Rattle.role_order.specs.Lists.{IsFirst}
+use Rattle.list_words.specs.Lists.{IsFirst}
 use Rattle.arbac_laws.specs.Needs.{Need}
 use Rattle.arbac_rules.specs.declared.conjunct.Conjunct.{Conjunct}
 use Rattle.arbac_rules.specs.declared.TheConstants.{MOST_CONJUNCTS}

@@ -1,7 +1,7 @@
 -- A policy with the conjuncts of its rules.
 use Rattle.std.specs.Prelude.{◌≡◌, ◌<◌, ◌≤◌, List, map, Vec}
 use Rattle.std.specs.declared.alloc.Global.{Global}
-use Rattle.role_order.specs.Lists.{Each, IsFirst}
+use Rattle.list_words.specs.Lists.{Each, IsFirst}
 use Rattle.arbac_policy.specs.declared.rule.CanAssign.{CanAssign}
 use Rattle.arbac_policy.specs.Truth.{term_of}
 use Rattle.arbac_policy.specs.Rules.{Rules}

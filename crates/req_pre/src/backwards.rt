@@ -2,7 +2,7 @@
 
 ghost use Rattle.std.specs.Prelude.{ℕ, ◌≡◌, ◌<◌, ◌++◌, [], ◌∷◌, not, if◌then◌else◌, length, map, filter, slice_get, slice_set, option_map, IfOk, IfSome, OnOk};
 ghost use Rattle.std.specs.List.{list_any};
-ghost use Rattle.role_order.specs.Lists.{Each};
+ghost use Rattle.list_words.specs.Lists.{Each};
 ghost use Rattle.role_order.specs.Reach.{seniors_of};
 ghost use Rattle.role_order.specs.Roles.{has_role, join_roles, without_role};
 ghost use Rattle.arbac_policy.specs.declared.rule.CanAssign.{CanAssign};

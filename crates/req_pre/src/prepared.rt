@@ -1,7 +1,7 @@
 //! A policy with the conjuncts of its rules.
 
 ghost use Rattle.std.specs.Prelude.{◌≡◌, ◌≤◌, ◌<◌, ℕ, length, map, slice_get, Some, IfOk, IfErr, IfSome, IfNone};
-ghost use Rattle.role_order.specs.Lists.{Each};
+ghost use Rattle.list_words.specs.Lists.{Each};
 ghost use Rattle.arbac_policy.specs.Rules.{IsPolicy};
 ghost use Rattle.arbac_policy.specs.declared.rule.CanAssign.{CanAssign};
 ghost use Rattle.arbac_rules.specs.Views.{needs_of};

@@ -3,14 +3,16 @@ use Rattle.std.proofs.Common.{ℕ, ◌≡◌, ◌<◌, ◌≤◌, ◌+◌, List,
 use Rattle.std.specs.Prelude.{◌⊎◌, ◌↔◌, slice_get, slice_set}
 use Rattle.std.proofs.lemmas.Bool.{eqb-true, eq-eqb, false≢true}
 use Rattle.std.proofs.lemmas.Bool.Decides.{nat_tests}
-use Rattle.role_order.specs.Lists.{Each}
+use Rattle.list_words.specs.Lists.{Each}
 use Rattle.role_order.specs.Roles.{has_role, with_role, join_roles, IsIn, Rises}
 use Rattle.role_order.specs.Graph.{Graph, Leads, here, AreEdges, AreAcyclic, turned}
 use Rattle.role_order.specs.Refusals.{IsOrder}
 use Rattle.role_order.specs.Closures.{AreAbove, raised, raised_set}
 use Rattle.role_order.specs.Reach.{seniors_of, juniors_of}
-use Rattle.role_order.proofs.ListLemmas.{get_within, get_at, get_taken, each_at, take_all, get_last, take_one_more}
-use Rattle.role_order.proofs.SetLemmas.{or_cases, or_right, has_role-with_role, has_role-join_roles, rises-join_roles, same_test, same_set}
+use Rattle.list_words.proofs.GetLemmas.{get_within, get_at, get_taken, take_all, get_last_cases, take_one_more}
+use Rattle.list_words.proofs.EachLemmas.{each_at}
+use Rattle.role_order.proofs.SetLemmas.{has_role-with_role, has_role-join_roles, rises-join_roles, same_set}
+use Rattle.list_words.proofs.TestLemmas.{or_cases, or_right, same_test}
 use Rattle.role_order.proofs.ReachLemmas.{Leads-join, leads_still, leads_split, leads_through, leads_from_none, leads_back, in_seniors, in_juniors, rises_seniors, rises_juniors, leads_to_below}
 
 -- a list that was mapped up to a place, with the item there mapped too
@@ -65,7 +67,7 @@ pub one_alone : (above : List (List ℕ)) (count : ℕ) → AreAbove count [] ab
 one_alone above count table = record {
   long = longer above ∙ ap (λ n. n + 1) table.long;
   rise = rising above table.rise;
-  each = λ role set e senior. by_place role set senior (get_last above (count ∷ []) set role e);
+  each = λ role set e senior. by_place role set senior (get_last_cases above (count ∷ []) set role e);
 }
   where
     longer : (xs : List (List ℕ)) → length (xs ++ (count ∷ []) ∷ []) ≡ length xs + 1
@@ -160,7 +162,7 @@ raised_above count edges above senior junior table s j = record {
 pub acyclic_more : (edges : List (ℕ × ℕ)) (i : ℕ) (edge : ℕ × ℕ) → slice_get edges i ≡ Some edge → AreAcyclic (take i edges) → (Leads (take i edges) edge.1 edge.0 → ⊥)
     → AreAcyclic (take (i + 1) edges)
 acyclic_more edges i edge e before none place other at =
-    by_place (get_last (take i edges) edge other place (subst (λ t. slice_get t place ≡ Some other) (take_one_more edges i edge e) at))
+    by_place (get_last_cases (take i edges) edge other place (subst (λ t. slice_get t place ≡ Some other) (take_one_more edges i edge e) at))
   where
     within : i < length edges
     within = (get_within edges i edge e).0

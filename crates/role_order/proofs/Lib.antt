@@ -1,4 +1,3 @@
-pub mod ListLemmas
 pub mod SetLemmas
 pub mod ReachLemmas
 pub mod ClosureLemmas

@@ -5,8 +5,9 @@ use Rattle.std.specs.List.{prefix_len}
 use Rattle.std.specs.Str.{bytes_eq}
 use Rattle.std.specs.String.{string_bytes}
 use Rattle.std.specs.declared.alloc.Global.{Global}
-use Rattle.role_order.specs.Names.{texts, place_of, AreDifferent}
-use Rattle.role_order.proofs.ListLemmas.{get_last, take_one_more}
+use Rattle.role_order.specs.Names.{texts, place_of}
+use Rattle.list_words.specs.Lists.{AreDifferent}
+use Rattle.list_words.proofs.GetLemmas.{get_last_cases, take_one_more}
 use Rattle.std.proofs.lemmas.Bool.Decides.{nat_tests}
 use Rattle.std.proofs.lemmas.Slice.Eq.{bytes_eq-Decides}
 
@@ -74,8 +75,8 @@ none_of text names k none at = past (prefix_len (λ name. not (bytes_eq name tex
 -- names that differ, with one more that isn't among them
 pub different_more : (names : List (List ℕ)) (i : ℕ) (name : List ℕ) → slice_get names i ≡ Some name → AreDifferent (take i names) → place_of (take i names) name ≡ None → AreDifferent (take (i + 1) names)
 different_more names i name at before none j k text ej ek =
-    by_places (get_last (take i names) name text j (subst (λ t. slice_get t j ≡ Some text) (take_one_more names i name at) ej))
-    (get_last (take i names) name text k (subst (λ t. slice_get t k ≡ Some text) (take_one_more names i name at) ek))
+    by_places (get_last_cases (take i names) name text j (subst (λ t. slice_get t j ≡ Some text) (take_one_more names i name at) ej))
+    (get_last_cases (take i names) name text k (subst (λ t. slice_get t k ≡ Some text) (take_one_more names i name at) ek))
   where
     by_places : (slice_get (take i names) j ≡ Some text) ⊎ ((j ≡ length (take i names)) × (name ≡ text)) → (slice_get (take i names) k ≡ Some text) ⊎ ((k ≡ length (take i names)) × (name ≡ text)) → j ≡ k
     by_places (inl a) (inl b) = before j k text a b

@@ -6,8 +6,10 @@ use Rattle.std.proofs.lemmas.Bool.Decides.{nat_tests}
 use Rattle.role_order.specs.Roles.{has_role, with_role, IsIn, Rises}
 use Rattle.role_order.specs.Graph.{Graph, Leads, here, down, AreEdges, IsEdge, turned}
 use Rattle.role_order.specs.Reach.{is_edge, leads_by, seniors_of, juniors_of, count_up}
-use Rattle.role_order.proofs.ListLemmas.{at_contains, each_at}
-use Rattle.role_order.proofs.SetLemmas.{or_cases, or_right, and_both, both_true, has_role-with_role, has_role-filter, has_role-count_up, rises-with_role, rises-filter, rises-count_up}
+use Rattle.list_words.proofs.GetLemmas.{at_contains}
+use Rattle.list_words.proofs.EachLemmas.{each_at}
+use Rattle.role_order.proofs.SetLemmas.{has_role-with_role, has_role-filter, has_role-count_up, rises-with_role, rises-filter, rises-count_up}
+use Rattle.list_words.proofs.TestLemmas.{or_cases, or_right, and_both, both_true}
 
 pub Leads-join : {edges : List (ℕ × ℕ)} {x y : ℕ} → Leads edges x y → (z : ℕ) → Leads edges y z → Leads edges x z
 Leads-join here z r = r

@@ -1,36 +1,12 @@
 -- What is in a set after a change, and sets that have the same roles.
-use Rattle.std.proofs.Common.{ℕ, ◌≡◌, ◌+◌, ◌<◌, ◌≤◌, Bool, true, false, ◌||◌, ◌&&◌, cond, eqb, ltb, List, [], ◌∷◌, refl, arith, zero, suc, ap, sym, ◌∙◌, subst, inl, inr}
-use Rattle.std.specs.Prelude.{◌==◌, ◌⊎◌, filter}
+use Rattle.std.proofs.Common.{ℕ, ◌≡◌, ◌+◌, ◌<◌, ◌≤◌, Bool, true, false, ◌||◌, ◌&&◌, cond, eqb, ltb, List, [], ◌∷◌, refl, arith, zero, suc, ap, sym, ◌∙◌, subst}
+use Rattle.std.specs.Prelude.{◌==◌, filter}
 use Rattle.std.proofs.lemmas.Bool.{ne_eqb, eq-eqb, eqb-true, false≢true}
 use Rattle.std.proofs.lemmas.Bool.Decides.{nat_tests}
-use Rattle.role_order.specs.Lists.{Each}
+use Rattle.list_words.specs.Lists.{Each}
 use Rattle.role_order.specs.Roles.{has_role, with_role, join_roles, Rises}
 use Rattle.role_order.specs.Reach.{count_up}
-
--- two tests that pass together are equal
-pub same_test : (a b : Bool) → (a ≡ true → b ≡ true) → (b ≡ true → a ≡ true) → a ≡ b
-same_test true b f g = sym (f refl)
-same_test false true f g = g refl
-same_test false false f g = refl
-
-pub or_cases : (a b : Bool) → (a || b) ≡ true → (a ≡ true) ⊎ (b ≡ true)
-or_cases true b e = inl refl
-or_cases false b e = inr e
-
-pub or_none : (a b : Bool) → (a || b) ≡ false → (a ≡ false) × (b ≡ false)
-or_none true b e = cc
-or_none false b e = (refl, e)
-
-pub or_right : (a b : Bool) → b ≡ true → (a || b) ≡ true
-or_right true b e = refl
-or_right false b e = e
-
-pub and_both : (a b : Bool) → (a && b) ≡ true → (a ≡ true) × (b ≡ true)
-and_both true b e = (refl, e)
-and_both false b e = cc
-
-pub both_true : (a b : Bool) → a ≡ true → b ≡ true → (a && b) ≡ true
-both_true a b e f = rw (e, f) refl
+use Rattle.list_words.proofs.EachLemmas.{each_weaker}
 
 pub has_role-with_role : (xs : List ℕ) (r q : ℕ) → has_role (with_role xs r) q ≡ ((r == q) || has_role xs q)
 has_role-with_role [] r q = refl
@@ -74,10 +50,6 @@ has_role-filter p (x ∷ xs) q = by_test (p x) refl (eqb x q) refl (has_role-fil
         ended false = refl
     by_test false h false e rest = rw e rest
 
-pub each_weaker : {A : Type 0} (P Q : A → Type 0) (xs : List A) → ((x : A) → P x → Q x) → Each P xs → Each Q xs
-each_weaker P Q [] f h = tt
-each_weaker P Q (x ∷ xs) f h = (f x h.0, each_weaker P Q xs f h.1)
-
 pub each-filter : (P : ℕ → Type 0) (p : ℕ → Bool) (xs : List ℕ) → Each P xs → Each P (filter p xs)
 each-filter P p [] h = tt
 each-filter P p (x ∷ xs) h =
@@ -104,7 +76,7 @@ rises-with_role (x ∷ xs) r h = by_order (ltb r x) refl (eqb x r) refl (rises-w
     by_order : (s : Bool) → ltb r x ≡ s → (t : Bool) → eqb x r ≡ t → Rises (with_role xs r) → Rises (cond s (r ∷ x ∷ xs) (cond t (x ∷ xs) (x ∷ with_role xs r)))
     by_order true b t e rest =
         let below : r < x = grind (arith, nat_tests) in
-        ((below, each_weaker (λ y. x < y) (λ y. r < y) xs (λ y l. omega arith) h.0), h)
+        ((below, each_weaker (λ y. x < y) (λ y. r < y) (λ y l. omega arith) xs h.0), h)
     by_order false b true e rest = h
     by_order false b false e rest =
         let above : x < r = grind (arith, nat_tests) in
@@ -120,7 +92,7 @@ count_up_from low at (suc n) h = (h, count_up_from low (at + 1) n (omega arith))
 
 pub rises-count_up : (at n : ℕ) → Rises (count_up at n)
 rises-count_up at zero = tt
-rises-count_up at (suc n) = (each_weaker (λ y. at + 1 ≤ y) (λ y. at < y) (count_up (at + 1) n) (λ y l. omega arith) (count_up_from (at + 1) (at + 1) n (omega arith)), rises-count_up (at + 1) n)
+rises-count_up at (suc n) = (each_weaker (λ y. at + 1 ≤ y) (λ y. at < y) (λ y l. omega arith) (count_up (at + 1) n) (count_up_from (at + 1) (at + 1) n (omega arith)), rises-count_up (at + 1) n)
 
 -- the numbers counted up are those from the first on, so many of them
 pub has_role-count_up : (at n q : ℕ) → at ≤ q → q < at + n → has_role (count_up at n) q ≡ true
@@ -138,7 +110,7 @@ has_role-above x (y ∷ ys) h = let ne : eqb y x ≡ false = ne_eqb y x (λ e. o
 pub has_role-below : (q x : ℕ) (xs : List ℕ) → q < x → Each (λ y. x < y) xs → has_role (x ∷ xs) q ≡ false
 has_role-below q x xs l h =
     let ne : eqb x q ≡ false = ne_eqb x q (λ e. omega arith) in
-    rw ne (has_role-above q xs (each_weaker (λ y. x < y) (λ y. q < y) xs (λ y m. omega arith) h))
+    rw ne (has_role-above q xs (each_weaker (λ y. x < y) (λ y. q < y) (λ y m. omega arith) xs h))
 
 -- rising lists with the same roles are equal
 pub same_set : (xs ys : List ℕ) → Rises xs → Rises ys → ((q : ℕ) → has_role xs q ≡ has_role ys q) → xs ≡ ys

@@ -1,6 +1,6 @@
 -- Tables of the roles above each role.
 use Rattle.std.specs.Prelude.{ℕ, ◌≡◌, ◌&&◌, not, if◌then◌else◌, List, [], ◌↔◌, length, map, get_or, slice_get, Some}
-use Rattle.role_order.specs.Lists.{Each}
+use Rattle.list_words.specs.Lists.{Each}
 use Rattle.role_order.specs.Roles.{has_role, join_roles, IsIn, Rises}
 use Rattle.role_order.specs.Graph.{Leads}
 use Rattle.role_order.specs.declared.closure.Closure.{Closure}

@@ -1,6 +1,6 @@
 -- A role order: the names of its roles and its written edges.
 use Rattle.std.specs.Prelude.{ℕ, ◌≡◌, ◌<◌, List, Contains, slice_get, Some, take}
-use Rattle.role_order.specs.Lists.{Each}
+use Rattle.list_words.specs.Lists.{Each}
 
 -- the place of a name, from 0, is its role; edges are pairs, with the senior in front
 pub record Graph : Type 0 where

@@ -1,4 +1,3 @@
-pub mod Lists
 pub mod Roles
 pub mod Orders
 pub mod Places

@@ -1,5 +1,5 @@
 -- Names, and the names of roles.
-use Rattle.std.specs.Prelude.{ℕ, ◌≡◌, Bool, not, ◌==◌, ◌||◌, ◌&&◌, nat_le, List, [], ◌∷◌, length, codes, Option, Some, String, slice_get, position}
+use Rattle.std.specs.Prelude.{ℕ, Bool, not, ◌==◌, ◌||◌, ◌&&◌, nat_le, List, [], ◌∷◌, length, codes, Option, String, position}
 use Rattle.std.specs.List.{list_all}
 use Rattle.std.specs.Str.{bytes_eq}
 use Rattle.std.specs.String.{string_bytes}
@@ -30,7 +30,3 @@ is_role_name text = is_name text && not (is_reserved text)
 -- the place of the first name that equals the text
 abbrev pub place_of : List (List ℕ) → List ℕ → Option ℕ
 place_of names text = position (λ name. bytes_eq name text) names
-
--- no two names are equal
-abbrev pub AreDifferent : List (List ℕ) → Type 0
-AreDifferent names = (i j : ℕ) (name : List ℕ) → slice_get names i ≡ Some name → slice_get names j ≡ Some name → i ≡ j

@@ -1,20 +1,7 @@
 -- The order of lists that an order of their items gives, and that of sets.
-use Rattle.std.specs.Prelude.{ℕ, ◌≡◌, ◌⊎◌, Bool, true, false, ◌||◌, ◌&&◌, not, nat_lt, List, [], ◌∷◌}
-
--- a list comes before another at the first place where they differ, or as its front
-abbrev pub list_before : {A : Type 0} → (A → A → Bool) → List A → List A → Bool
-list_before before [] [] = false
-list_before before [] (y ∷ ys) = true
-list_before before (x ∷ xs) [] = false
-list_before before (x ∷ xs) (y ∷ ys) = before x y || (not (before y x) && list_before before xs ys)
+use Rattle.std.specs.Prelude.{ℕ, Bool, nat_lt, List}
+use Rattle.list_words.specs.Orders.{list_before}
 
 -- sets as rising lists of numbers
 abbrev pub set_before : List ℕ → List ℕ → Bool
 set_before = list_before nat_lt
-
--- nothing is before itself, what is before a second that is before a third is before the third, and
--- of two different ones one is before the other
-pub record IsTotalOrder {A : Type 0} (before : A → A → Bool) : Type 0 where
-  pub never : (x : A) → ¬ (before x x ≡ true)
-  pub through : (x y z : A) → before x y ≡ true → before y z ≡ true → before x z ≡ true
-  pub total : (x y : A) → (before x y ≡ true) ⊎ ((x ≡ y) ⊎ (before y x ≡ true))

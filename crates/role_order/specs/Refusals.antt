@@ -3,8 +3,8 @@ use Rattle.std.specs.Prelude.{ℕ, ◌≡◌, ◌<◌, ◌≤◌, true, false, L
 use Rattle.role_order.specs.declared.order.OrderError.{OrderError}
 use Rattle.role_order.specs.declared.order.OrderError.TheVariants.{NoRoles, TooManyRoles, BadName, SameName, EdgeOutOfRange, Cycle, Memory}
 use Rattle.role_order.specs.declared.TheConstants.{MOST_ROLES}
-use Rattle.role_order.specs.Lists.{Each, IsFirst}
-use Rattle.role_order.specs.Names.{is_role_name, AreDifferent, place_of}
+use Rattle.list_words.specs.Lists.{Each, IsFirst, AreDifferent}
+use Rattle.role_order.specs.Names.{is_role_name, place_of}
 use Rattle.role_order.specs.Graph.{IsEdge, AreEdges, AreAcyclic, IsCycle}
 
 -- 1 to 250 roles

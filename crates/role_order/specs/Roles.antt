@@ -1,7 +1,7 @@
 -- Sets of roles, as strictly rising lists of role numbers.
 use Rattle.std.specs.Prelude.{ℕ, ◌≡◌, ◌<◌, Bool, true, false, not, ◌==◌, ◌||◌, nat_lt, if◌then◌else◌, List, [], ◌∷◌, filter}
 use Rattle.std.specs.List.{list_any, list_all}
-use Rattle.role_order.specs.Lists.{Each}
+use Rattle.list_words.specs.Lists.{Each}
 use Rattle.role_order.specs.declared.TheConstants.{MOST_ROLES}
 
 -- whether the role is in the set

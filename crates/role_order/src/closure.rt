@@ -2,7 +2,7 @@
 
 ghost use Rattle.std.specs.Prelude.{◌≡◌, ◌<◌, ◌≤◌, length, [], IfOk, IfSome, IfNone, Some};
 ghost use Rattle.role_order.specs.Graph.{AreEdges, IsEdge, IsCycle, AreAcyclic};
-ghost use Rattle.role_order.specs.Lists.{IsFirst};
+ghost use Rattle.list_words.specs.Lists.{IsFirst};
 ghost use Rattle.role_order.specs.Closures.{AreAbove, IfTable, IfCycle, raised, raised_set};
 
 use crate::MOST_ROLES;

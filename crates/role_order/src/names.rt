@@ -4,8 +4,8 @@ ghost use Rattle.std.specs.Prelude.{◌≡◌, ◌<◌, length, position, IfSome
 ghost use Rattle.std.specs.List.{list_all};
 ghost use Rattle.std.specs.Str.{bytes_eq};
 ghost use Rattle.std.specs.String.{string_bytes};
-ghost use Rattle.role_order.specs.Names.{texts, is_name as name, is_name_byte as is_byte, is_reserved as reserved, is_role_name as role_name, place_of, AreDifferent};
-ghost use Rattle.role_order.specs.Lists.{IsFirst};
+ghost use Rattle.role_order.specs.Names.{texts, is_name as name, is_name_byte as is_byte, is_reserved as reserved, is_role_name as role_name, place_of};
+ghost use Rattle.list_words.specs.Lists.{AreDifferent, IsFirst};
 ghost use Rattle.role_order.specs.Refusals.{AreRoleNames, IsRepeated};
 
 use crate::MOST_NAME_BYTES;

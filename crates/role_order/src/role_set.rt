@@ -2,7 +2,8 @@
 
 ghost use Rattle.std.specs.Prelude.{◌≡◌, ◌<◌, ◌≤◌, [], List, length, drop};
 ghost use Rattle.std.specs.List.{list_any};
-ghost use Rattle.role_order.specs.Orders.{set_before, IsTotalOrder};
+ghost use Rattle.role_order.specs.Orders.{set_before};
+ghost use Rattle.list_words.specs.Orders.{IsTotalOrder};
 ghost use Rattle.role_order.specs.Roles.{has_role, with_role, without_role, less_roles, is_within, have_common, common_roles, join_roles, Rises, IsRoleSet};
 
 use crate::MOST_ROLES;

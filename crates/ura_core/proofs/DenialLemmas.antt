@@ -2,11 +2,12 @@
 use Rattle.std.proofs.Common.{ℕ, ◌≡◌, ◌<◌, ◌≤◌, ◌∙◌, true, List, [], ◌∷◌, length, refl, arith, sym, subst, ap, inl, inr, Some, None, eqb}
 use Rattle.std.specs.Prelude.{◌⊎◌, slice_get, slice_set}
 use Rattle.std.proofs.lemmas.Bool.{eqb-true, eq-eqb}
-use Rattle.role_order.specs.Lists.{Some_of}
+use Rattle.list_words.specs.Lists.{Some_of}
 use Rattle.role_order.specs.Ranges.{IsInRange}
 use Rattle.role_order.specs.Roles.{has_role, without_role, IsIn}
-use Rattle.role_order.proofs.ListLemmas.{some_at}
-use Rattle.role_order.proofs.SetLemmas.{or_cases, has_role-with_role}
+use Rattle.list_words.proofs.EachLemmas.{some_at, some_weaker}
+use Rattle.role_order.proofs.SetLemmas.{has_role-with_role}
+use Rattle.list_words.proofs.TestLemmas.{or_cases}
 use Rattle.arbac_policy.specs.declared.act.ActKind.{ActKind}
 use Rattle.arbac_policy.specs.declared.act.ActKind.TheVariants.{Assign, Weak, Strong}
 use Rattle.arbac_policy.specs.declared.verdict.Part.{Part}
@@ -17,7 +18,7 @@ use Rattle.arbac_policy.specs.Rules.{Rules}
 use Rattle.arbac_policy.specs.Holders.{assign_rules, revoke_rules, pairs_of, admins_of, falling}
 use Rattle.arbac_policy.specs.Steps.{Blocks, LetsAssign, LetsRevoke, AssignStep, WeakStep, WeakSteps, StrongStep, KindStep}
 use Rattle.arbac_policy.specs.Verdicts.{PlaceFails, FitsRule, AssignFails, RevokeFails, AssignDenied, WeakDenied, WeaksDenied, StrongDenied, KindDenied}
-use Rattle.ura_core.proofs.StepLemmas.{some_weaker, some_item}
+use Rattle.ura_core.proofs.StepLemmas.{some_item}
 
 pub places_no : (users old : List (List ℕ)) (admin target : ℕ) (part : Part) (by set : List ℕ) → PlaceFails users old admin target part
     → slice_get users admin ≡ Some by → slice_get old target ≡ Some set → ⊥
@@ -37,9 +38,9 @@ assign_no holder rules by set role (NoRole r) h lets free =
     let few : role < length rules.order.names = one.1.in_range.is_role in
     absurd (omega (arith, h.1))
 assign_no holder rules by set role (NoRange r) h lets free =
-    h.2 (some_weaker (LetsAssign holder rules by set role) (λ rule. IsInRange rules.order rule.range role) (assign_rules holder rules) (λ rule l. l.in_range) lets)
+    h.2 (some_weaker (LetsAssign holder rules by set role) (λ rule. IsInRange rules.order rule.range role) (λ rule l. l.in_range) (assign_rules holder rules) lets)
 assign_no holder rules by set role (NoAdmin r place) h lets free =
-    h.2 (some_weaker (LetsAssign holder rules by set role) (λ rule. FitsRule rules by role rule.range rule.admin) (assign_rules holder rules) (λ rule l. (l.in_range, l.by_admin)) lets)
+    h.2 (some_weaker (LetsAssign holder rules by set role) (λ rule. FitsRule rules by role rule.range rule.admin) (λ rule l. (l.in_range, l.by_admin)) (assign_rules holder rules) lets)
 assign_no holder rules by set role (NoCondition r place) h lets free = h.2 lets
 assign_no holder rules by set role (Exclusive r place) h lets (inl held) = h.2 held
 assign_no holder rules by set role (Exclusive r place) h lets (inr none) =
@@ -53,7 +54,7 @@ revoke_no holder rules by role (NoRole r) h lets =
     let few : role < length rules.order.names = one.1.in_range.is_role in
     absurd (omega (arith, h.1))
 revoke_no holder rules by role (NoRange r) h lets =
-    h.2 (some_weaker (LetsRevoke rules by role) (λ rule. IsInRange rules.order rule.range role) (revoke_rules holder rules) (λ rule l. l.in_range) lets)
+    h.2 (some_weaker (LetsRevoke rules by role) (λ rule. IsInRange rules.order rule.range role) (λ rule l. l.in_range) (revoke_rules holder rules) lets)
 revoke_no holder rules by role (NoAdmin r place) h lets = h.2 lets
 revoke_no holder rules by role (NoCondition r place) h lets = h
 revoke_no holder rules by role (Exclusive r place) h lets = h

@@ -4,7 +4,8 @@ use Rattle.std.specs.Prelude.{◌⊎◌, filter}
 use Rattle.std.proofs.lemmas.Bool.{eqb-true}
 use Rattle.role_order.specs.Roles.{has_role, IsIn}
 use Rattle.role_order.specs.Graph.{Graph, AreEdges}
-use Rattle.role_order.proofs.SetLemmas.{or_cases, and_both, has_role-with_role, has_role-filter}
+use Rattle.role_order.proofs.SetLemmas.{has_role-with_role, has_role-filter}
+use Rattle.list_words.proofs.TestLemmas.{or_cases, and_both}
 use Rattle.role_order.proofs.ReachLemmas.{in_seniors, in_juniors, leads_from_below, leads_to_below}
 use Rattle.arbac_policy.specs.Truth.{Holder}
 use Rattle.arbac_policy.specs.declared.holder.On.TheVariants.{User, Permission}

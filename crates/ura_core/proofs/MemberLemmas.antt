@@ -4,7 +4,8 @@ use Rattle.std.specs.Prelude.{◌⊎◌}
 use Rattle.std.proofs.lemmas.Bool.{eq-eqb, eqb-true}
 use Rattle.role_order.specs.Roles.{has_role, with_role}
 use Rattle.role_order.specs.Graph.{Leads}
-use Rattle.role_order.proofs.SetLemmas.{or_cases, or_right, has_role-with_role}
+use Rattle.role_order.proofs.SetLemmas.{has_role-with_role}
+use Rattle.list_words.proofs.TestLemmas.{or_cases, or_right}
 use Rattle.arbac_policy.specs.Truth.{IsMember}
 use Rattle.arbac_policy.specs.declared.rule.CanRevoke.{CanRevoke}
 

@@ -3,42 +3,17 @@ use Rattle.std.proofs.Common.{ℕ, ◌≡◌, ◌<◌, ◌≤◌, ◌+◌, ◌�
 use Rattle.std.specs.Prelude.{filter, nat_lt, slice_get, slice_set}
 use Rattle.std.proofs.lemmas.Bool.{eqb-true, eq-eqb}
 use Rattle.std.proofs.lemmas.Bool.Decides.{nat_tests}
-use Rattle.role_order.specs.Lists.{Each, Some_of}
+use Rattle.list_words.specs.Lists.{Each, Some_of}
 use Rattle.role_order.specs.Roles.{has_role, IsIn, Rises}
-use Rattle.role_order.proofs.SetLemmas.{or_right, has_role-above, each_weaker}
+use Rattle.role_order.proofs.SetLemmas.{has_role-above}
+use Rattle.list_words.proofs.TestLemmas.{or_right}
+use Rattle.list_words.proofs.EachLemmas.{each_weaker}
 use Rattle.arbac_policy.specs.Truth.{Holder}
 use Rattle.arbac_policy.specs.Rules.{Rules}
 use Rattle.arbac_policy.specs.Holders.{admins_of}
 use Rattle.arbac_policy.specs.Steps.{WeakStep, WeakSteps}
 use Rattle.arbac_policy.specs.Verdicts.{WeakDenied, WeaksDenied}
 use Rattle.arbac_policy.specs.declared.verdict.Part.{Part}
-
-pub get_set : {A : Type 0} (xs : List A) (i : ℕ) (x y : A) → slice_get xs i ≡ Some x → slice_get (slice_set xs i y) i ≡ Some y
-get_set [] i x y e = cc
-get_set (z ∷ zs) zero x y e = refl
-get_set (z ∷ zs) (suc i) x y e = get_set zs i x y e
-
-pub get_set_other : {A : Type 0} (xs : List A) (i k : ℕ) (y : A) → (i ≡ k → ⊥) → slice_get (slice_set xs i y) k ≡ slice_get xs k
-get_set_other [] i k y n = refl
-get_set_other (z ∷ zs) zero zero y n = absurd (n refl)
-get_set_other (z ∷ zs) zero (suc k) y n = refl
-get_set_other (z ∷ zs) (suc i) zero y n = refl
-get_set_other (z ∷ zs) (suc i) (suc k) y n = get_set_other zs i k y (λ e. n (ap suc e))
-
-pub set_twice : {A : Type 0} (xs : List A) (i : ℕ) (x y : A) → slice_set (slice_set xs i x) i y ≡ slice_set xs i y
-set_twice [] i x y = refl
-set_twice (z ∷ zs) zero x y = refl
-set_twice (z ∷ zs) (suc i) x y = ap (λ t. z ∷ t) (set_twice zs i x y)
-
-pub set_same : {A : Type 0} (xs : List A) (i : ℕ) (x : A) → slice_get xs i ≡ Some x → slice_set xs i x ≡ xs
-set_same [] i x e = refl
-set_same (z ∷ zs) zero x e = let same : z ≡ x = cc in ap (λ t. t ∷ zs) (sym same)
-set_same (z ∷ zs) (suc i) x e = ap (λ t. z ∷ t) (set_same zs i x e)
-
-pub some_weaker : {A : Type 0} (P Q : A → Type 0) (xs : List A) → ((x : A) → P x → Q x) → Some_of P xs → Some_of Q xs
-some_weaker P Q [] f h = h
-some_weaker P Q (x ∷ xs) f (inl p) = inl (f x p)
-some_weaker P Q (x ∷ xs) f (inr h) = inr (some_weaker P Q xs f h)
 
 pub some_item : {A : Type 0} (P : A → Type 0) (xs : List A) → Some_of P xs → (x : A) × P x
 some_item P [] h = absurd h
@@ -74,14 +49,14 @@ below_next (x ∷ xs) at rises h = by_order (ltb x at) refl (eqb x at) refl (λ 
         rw (
           less,
           a,
-          none_below xs (at + 1) (each_weaker (λ y. at < y) (λ y. at + 1 ≤ y) xs (λ y l. omega arith) above),
-          none_below xs at (each_weaker (λ y. at < y) (λ y. at ≤ y) xs (λ y l. omega arith) above),
+          none_below xs (at + 1) (each_weaker (λ y. at < y) (λ y. at + 1 ≤ y) (λ y l. omega arith) xs above),
+          none_below xs at (each_weaker (λ y. at < y) (λ y. at ≤ y) (λ y l. omega arith) xs above),
         )
         (ap (λ v. v ∷ []) same)
     by_order false a false b rest =
         let above : at < x = grind (arith, nat_tests) in
         let there : has_role xs at ≡ true = rw b at h in
-        absurd (false_true (sym (has_role-above at xs (each_weaker (λ y. x < y) (λ y. at < y) xs (λ y l. omega arith) rises.0)) ∙ there))
+        absurd (false_true (sym (has_role-above at xs (each_weaker (λ y. x < y) (λ y. at < y) (λ y l. omega arith) xs rises.0)) ∙ there))
       where
         false_true : false ≡ true → ⊥
         false_true e = cc
@@ -135,11 +110,11 @@ split_at (x ∷ xs) at rises h = by_order (ltb x at) refl (eqb x at) refl (λ k.
     by_order false a true b rest =
         let same : x ≡ at = eqb-true x at b in
         let above : Each (λ y. at < y) xs = subst (λ v. Each (λ y. v < y) xs) same rises.0 in
-        (xs, rw (a, none_below xs at (each_weaker (λ y. at < y) (λ y. at ≤ y) xs (λ y l. omega arith) above)) (ap (λ v. v ∷ xs) same))
+        (xs, rw (a, none_below xs at (each_weaker (λ y. at < y) (λ y. at ≤ y) (λ y l. omega arith) xs above)) (ap (λ v. v ∷ xs) same))
     by_order false a false b rest =
         let above : at < x = grind (arith, nat_tests) in
         let there : has_role xs at ≡ true = rw b at h in
-        absurd (false_true (sym (has_role-above at xs (each_weaker (λ y. x < y) (λ y. at < y) xs (λ y l. omega arith) rises.0)) ∙ there))
+        absurd (false_true (sym (has_role-above at xs (each_weaker (λ y. x < y) (λ y. at < y) (λ y l. omega arith) xs rises.0)) ∙ there))
       where
         false_true : false ≡ true → ⊥
         false_true e = cc

@@ -5,13 +5,14 @@ use Rattle.std.proofs.lemmas.Bool.{eqb-true, eq-eqb}
 use Rattle.role_order.specs.Roles.{has_role, without_role, less_roles, IsIn}
 use Rattle.role_order.specs.Graph.{Leads, AreEdges, here}
 use Rattle.role_order.specs.Reach.{seniors_of}
-use Rattle.role_order.proofs.SetLemmas.{or_cases, or_right, and_both, both_true, has_role-with_role, has_role-filter, same_test}
+use Rattle.role_order.proofs.SetLemmas.{has_role-with_role, has_role-filter}
+use Rattle.list_words.proofs.TestLemmas.{or_cases, or_right, and_both, both_true, same_test}
 use Rattle.role_order.proofs.ReachLemmas.{in_seniors}
 use Rattle.arbac_policy.specs.Truth.{Holder, user}
 use Rattle.arbac_policy.specs.Rules.{Rules}
 use Rattle.arbac_policy.specs.Holders.{falling}
 use Rattle.arbac_policy.specs.Steps.{WeakSteps}
-use Rattle.ura_core.proofs.StepLemmas.{get_set, set_twice, set_same}
+use Rattle.list_words.proofs.GetLemmas.{get_set, set_twice, set_itself}
 
 eqb-sym : (a b : ℕ) → eqb a b ≡ eqb b a
 eqb-sym a b = same_test (eqb a b) (eqb b a) (λ e. eq-eqb b a (sym (eqb-true a b e))) (λ e. eq-eqb a b (sym (eqb-true b a e)))
@@ -36,7 +37,7 @@ less-none (x ∷ xs) = ap (λ t. x ∷ t) (less-none xs)
 -- weak steps of these roles take them all away
 pub weak_steps_leave : (holder : Holder) (rules : Rules) (users old : List (List ℕ)) (admin target : ℕ) (roles set : List ℕ) (new : List (List ℕ))
     → slice_get old target ≡ Some set → WeakSteps holder rules users old admin target roles new → new ≡ slice_set old target (less_roles set roles)
-weak_steps_leave holder rules users old admin target [] set new at steps = steps ∙ sym (ap (slice_set old target) (less-none set) ∙ set_same old target set at)
+weak_steps_leave holder rules users old admin target [] set new at steps = steps ∙ sym (ap (slice_set old target) (less-none set) ∙ set_itself old target set at)
 weak_steps_leave holder rules users old admin target (role ∷ roles) set new at steps =
     let same : steps.1.set ≡ set = cc (steps.1.set_is, at) in
     let mid : steps.0 ≡ slice_set old target (without_role set role) = steps.1.gives ∙ ap (λ s. slice_set old target (without_role s role)) same in

@@ -1,6 +1,6 @@
 -- What an administrator may do, by the sets of those concerned.
 use Rattle.std.specs.Prelude.{ℕ, List, ◌⊎◌}
-use Rattle.role_order.specs.Lists.{Some_of}
+use Rattle.list_words.specs.Lists.{Some_of}
 use Rattle.role_order.specs.Roles.{IsIn}
 use Rattle.arbac_policy.specs.Truth.{Holder}
 use Rattle.arbac_policy.specs.Rules.{Rules}

@@ -1,7 +1,7 @@
 //! The first part of one assignment or one weak revocation that fails, by the sets of those concerned.
 
 ghost use Rattle.std.specs.Prelude.{ℕ, ◌≡◌, ◌<◌, ◌⊎◌, IfSome, IfNone, length};
-ghost use Rattle.role_order.specs.Lists.{Some_of, IsFirst};
+ghost use Rattle.list_words.specs.Lists.{Some_of, IsFirst};
 ghost use Rattle.role_order.specs.Roles.{IsIn};
 ghost use Rattle.arbac_policy.specs.Holders.{assign_rules, revoke_rules, pairs_of};
 ghost use Rattle.arbac_policy.specs.Steps.{Blocks, LetsAssign, LetsRevoke};

@@ -1,7 +1,7 @@
 //! Which rule or pair is the first that fits.
 
 ghost use Rattle.std.specs.Prelude.{ℕ, ◌≡◌, ◌<◌, ◌^◌, ◌↔◌, ◌⊎◌, IsTrue, IfSome, IfNone, length};
-ghost use Rattle.role_order.specs.Lists.{Each, Some_of, IsFirst};
+ghost use Rattle.list_words.specs.Lists.{Each, Some_of, IsFirst};
 ghost use Rattle.role_order.specs.Ranges.{IsInRange};
 ghost use Rattle.role_order.specs.Graph.{Leads};
 ghost use Rattle.role_order.specs.Roles.{with_role};

@@ -1,5 +1,5 @@
 use Rattle.std.proofs.Common.{◌∙◌, ◌++◌, sym, ap, drop, ◌+◌}
-use Rattle.role_order.proofs.ListLemmas.{get_at}
+use Rattle.list_words.proofs.GetLemmas.{get_at}
 use Rattle.arbac_desk.specs.Texts.{goal_lines}
 use Rattle.arbac_desk.proofs.TextLemmas.{moved, finished, goal_lines_step, goal_lines_end}
 use Rattle.arbac_desk.proofs.texts.put_goals.Goals as goal

@@ -1,5 +1,5 @@
 use Rattle.std.proofs.Common.{◌∙◌, ◌++◌, sym, ap, drop, ◌+◌, Some}
-use Rattle.role_order.proofs.ListLemmas.{get_at}
+use Rattle.list_words.proofs.GetLemmas.{get_at}
 use Rattle.arbac_desk.specs.Texts.{user_lines}
 use Rattle.arbac_desk.proofs.TextLemmas.{moved, finished, user_lines_step, user_lines_end}
 use Rattle.arbac_desk.proofs.texts.put_users.Goals as goal

@@ -1,5 +1,5 @@
 use Rattle.arbac_laws.specs.Needs.{CoversNeed}
-use Rattle.arbac_laws.proofs.MapLemmas.{embeds_itself}
+use Rattle.list_words.proofs.EmbedLemmas.{embeds_itself}
 use Rattle.arbac_laws.proofs.CoverLemmas.{covers_itself, covers_transitive, met_covering, cover_met, met_possible}
 use Rattle.arbac_laws.proofs.cover.cover_laws.Goals as goal
 

@@ -1,5 +1,5 @@
 use Rattle.arbac_laws.specs.Needs.{MeetsNeed, CoversNeed}
-use Rattle.arbac_laws.proofs.DeficientLemmas.{deficient}
+use Rattle.list_words.proofs.DeficientLemmas.{deficient}
 use Rattle.arbac_laws.proofs.places.deficient_laws.Goals as goal
 
 pub returns : goal.returns

@@ -1,5 +1,5 @@
 use Rattle.arbac_laws.specs.Needs.{MeetsNeed, CoversNeed}
-use Rattle.arbac_laws.proofs.PlaceLemmas.{from_places, to_places}
+use Rattle.list_words.proofs.PlaceLemmas.{from_places, to_places}
 use Rattle.arbac_laws.proofs.places.place_laws.Goals as goal
 
 pub returns : goal.returns

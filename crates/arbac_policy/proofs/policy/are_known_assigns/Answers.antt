@@ -1,5 +1,6 @@
 use Rattle.std.proofs.Common.{◌∙◌, ap, sym, arith, Some, refl}
-use Rattle.role_order.proofs.ListLemmas.{each_of, get_at, get_within, below_more}
+use Rattle.list_words.proofs.EachLemmas.{each_of}
+use Rattle.list_words.proofs.GetLemmas.{get_at, get_within, below_more}
 use Rattle.arbac_policy.specs.Rules.{IsKnownAssign}
 use Rattle.arbac_policy.proofs.policy.are_known_assigns.Goals as goal
 

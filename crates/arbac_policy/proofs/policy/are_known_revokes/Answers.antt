@@ -1,5 +1,6 @@
 use Rattle.std.proofs.Common.{arith, refl}
-use Rattle.role_order.proofs.ListLemmas.{each_of, get_within}
+use Rattle.list_words.proofs.EachLemmas.{each_of}
+use Rattle.list_words.proofs.GetLemmas.{get_within}
 use Rattle.arbac_policy.specs.Rules.{IsKnownRevoke}
 use Rattle.arbac_policy.proofs.policy.are_known_revokes.Goals as goal
 

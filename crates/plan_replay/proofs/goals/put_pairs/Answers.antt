@@ -5,7 +5,7 @@ use Rattle.std.proofs.Common.{subst, sym, ap, ◌∙◌}
 use Rattle.plan_replay.proofs.goals.put_pairs.Goals.{then-holds+in_ok-push, else-holds}
 use Rattle.arbac_policy.specs.Truth.{Satisfies, user}
 use Rattle.std.specs.Prelude.{slice_get}
-use Rattle.role_order.proofs.ListLemmas.{get_at}
+use Rattle.list_words.proofs.GetLemmas.{get_at}
 use Rattle.hall_match.proofs.EdgeLemmas.{place_more, place_same}
 use Rattle.plan_replay.proofs.GoalLemmas.{pairs_whole}
 use Rattle.plan_replay.proofs.goals.put_pairs.Goals as goal

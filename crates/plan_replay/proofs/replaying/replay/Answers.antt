@@ -1,6 +1,6 @@
 use Rattle.std.proofs.Common.{◌∙◌, arith, rules}
 use Rattle.std.proofs.lemmas.Grind.{common_steps}
-use Rattle.role_order.proofs.ListLemmas.{get_at}
+use Rattle.list_words.proofs.GetLemmas.{get_at}
 use Rattle.plan_replay.specs.Replays.{StopsAt}
 use Rattle.plan_replay.proofs.RunLemmas.{run_taken, no_run, length-slice_set}
 use Rattle.plan_replay.proofs.replaying.replay.Goals as goal

@@ -1,6 +1,6 @@
 use Rattle.std.proofs.Common.{arith, sym, ap, ◌∙◌, ◌≡◌, refl, true, false, take}
 use Rattle.std.specs.Prelude.{slice_index_or, slice_get}
-use Rattle.role_order.proofs.ListLemmas.{get_at}
+use Rattle.list_words.proofs.GetLemmas.{get_at}
 use Rattle.arbac_policy.specs.Goals.{times}
 use Rattle.profile_set.specs.Draws.{has_left}
 use Rattle.profile_set.proofs.DrawLemmas.{drawn_more, spent_of, spent_refused}

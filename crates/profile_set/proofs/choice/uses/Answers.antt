@@ -1,7 +1,7 @@
 use Rattle.std.proofs.Common.{arith, ◌≡◌, true, false, eqb}
 use Rattle.std.proofs.lemmas.Bool.Decides.{nat_tests}
 use Rattle.std.specs.Prelude.{slice_index_or}
-use Rattle.role_order.proofs.ListLemmas.{get_at}
+use Rattle.list_words.proofs.GetLemmas.{get_at}
 use Rattle.profile_set.proofs.DrawLemmas.{times_here, times_other}
 use Rattle.profile_set.proofs.choice.uses.Goals.{then-choice-at, else-choice-at}
 use Rattle.profile_set.proofs.choice.uses.Goals as goal

@@ -2,7 +2,7 @@ use Rattle.std.proofs.Common.{◌≡◌, ◌<◌, sym, ap, arith, ◌∙◌, sub
 use Rattle.std.specs.Prelude.{slice_get}
 use Rattle.arbac_policy.specs.declared.profile.Profile.{Profile}
 use Rattle.role_order.specs.Orders.{set_before}
-use Rattle.role_order.proofs.ListLemmas.{get_at, get_within}
+use Rattle.list_words.proofs.GetLemmas.{get_at, get_within}
 use Rattle.profile_set.proofs.GroupLemmas.{add_new, add_here}
 use Rattle.profile_set.proofs.groups.add_member.Goals as goal
 use Rattle.profile_set.proofs.groups.add_member.Goals.{else-at-len-via-then-at-len+else-not-before, else-at-len-via-else-at-len}

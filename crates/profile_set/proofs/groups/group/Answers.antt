@@ -1,6 +1,6 @@
 use Rattle.std.proofs.Common.{◌≡◌, ◌∙◌, sym, ap, arith, take, length-take, Some}
 use Rattle.std.specs.Prelude.{slice_get}
-use Rattle.role_order.proofs.ListLemmas.{take_all, get_at}
+use Rattle.list_words.proofs.GetLemmas.{take_all, get_at}
 use Rattle.profile_set.proofs.GroupLemmas.{room, tally_more, group_of, one_group}
 use Rattle.profile_set.proofs.groups.group.Goals as goal
 

@@ -1,7 +1,7 @@
 use Rattle.std.proofs.Common.{rules, arith}
 use Rattle.std.proofs.lemmas.List.Sorted.{IsPartitionPoint-from_clause}
 use Rattle.role_order.specs.Orders.{set_before}
-use Rattle.role_order.proofs.ListLemmas.{get_within}
+use Rattle.list_words.proofs.GetLemmas.{get_within}
 use Rattle.profile_set.proofs.GroupLemmas.{parted}
 use Rattle.profile_set.proofs.groups.place_of.Goals as goal
 

@@ -1,5 +1,6 @@
 use Rattle.std.proofs.Common.{◌≤◌, ◌∙◌, ap, sym, arith, Some}
-use Rattle.role_order.proofs.ListLemmas.{get_at, each_at}
+use Rattle.list_words.proofs.GetLemmas.{get_at}
+use Rattle.list_words.proofs.EachLemmas.{each_at}
 use Rattle.arbac_policy.specs.declared.cond.Cond.{Cond}
 use Rattle.arbac_policy.specs.Truth.{term_of}
 use Rattle.cond_text.specs.declared.TheConstants.{MOST_TERMS}

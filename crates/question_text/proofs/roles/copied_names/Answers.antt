@@ -1,7 +1,7 @@
 use Rattle.std.proofs.Common.{ℕ, List, ◌∙◌, ◌++◌, ◌∷◌, [], ap, sym, take}
 use Rattle.std.specs.String.{string_bytes}
 use Rattle.role_order.specs.Names.{texts}
-use Rattle.role_order.proofs.ListLemmas.{take_one_more}
+use Rattle.list_words.proofs.GetLemmas.{take_one_more}
 use Rattle.role_order.proofs.NameLemmas.{texts-push}
 use Rattle.question_text.proofs.roles.copied_names.Goals as goal
 

@@ -1,9 +1,10 @@
 use Rattle.std.proofs.Common.{◌∙◌, sym, ap, map, length, arith, Some}
 use Rattle.role_order.proofs.ClosureLemmas.{length_mapped}
-use Rattle.role_order.proofs.ListLemmas.{get_at, each_at}
+use Rattle.list_words.proofs.GetLemmas.{get_at, get_map}
+use Rattle.list_words.proofs.EachLemmas.{each_at}
 use Rattle.arbac_policy.specs.Truth.{term_of, IsKnown}
 use Rattle.question_writer.specs.Texts.{condition_text}
-use Rattle.question_writer.proofs.PieceLemmas.{joined_step, joined_end, get_map}
+use Rattle.question_writer.proofs.PieceLemmas.{joined_step, joined_end}
 use Rattle.question_writer.proofs.pieces.put_conditions.Goals as goal
 
 pub put_condition-requires : goal.put_condition-requires

@@ -1,4 +1,4 @@
-use Rattle.role_order.proofs.ListLemmas.{get_at}
+use Rattle.list_words.proofs.GetLemmas.{get_at}
 use Rattle.question_writer.specs.Texts.{pair_text}
 use Rattle.question_writer.proofs.PieceLemmas.{joined_step, joined_end}
 use Rattle.question_writer.proofs.pieces.put_pairs.Goals as goal

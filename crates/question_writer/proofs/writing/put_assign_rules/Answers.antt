@@ -1,9 +1,9 @@
 use Rattle.std.proofs.Common.{◌∙◌, sym, ap, arith, map, Some}
 use Rattle.role_order.proofs.ClosureLemmas.{length_mapped}
-use Rattle.role_order.proofs.ListLemmas.{get_at}
+use Rattle.list_words.proofs.GetLemmas.{get_at, get_map}
 use Rattle.policy_text.specs.Runs.{plain_rule}
 use Rattle.question_writer.specs.Texts.{assign_text}
-use Rattle.question_writer.proofs.PieceLemmas.{flat_step, flat_end, get_map}
+use Rattle.question_writer.proofs.PieceLemmas.{flat_step, flat_end}
 use Rattle.question_writer.proofs.writing.put_assign_rules.Goals as goal
 
 pub loop-rule-preserved : goal.loop-rule-preserved

@@ -1,5 +1,5 @@
 use Rattle.std.proofs.Common.{◌∙◌, sym, ap, Some}
-use Rattle.role_order.proofs.ListLemmas.{get_at}
+use Rattle.list_words.proofs.GetLemmas.{get_at}
 use Rattle.question_writer.specs.Texts.{profile_text}
 use Rattle.question_writer.proofs.PieceLemmas.{flat_step, flat_end}
 use Rattle.question_writer.proofs.writing.put_profiles.Goals as goal

@@ -1,4 +1,4 @@
-use Rattle.role_order.proofs.ListLemmas.{get_at}
+use Rattle.list_words.proofs.GetLemmas.{get_at}
 use Rattle.question_writer.specs.Texts.{revoke_text}
 use Rattle.question_writer.proofs.PieceLemmas.{flat_step, flat_end}
 use Rattle.question_writer.proofs.writing.put_revoke_rules.Goals as goal

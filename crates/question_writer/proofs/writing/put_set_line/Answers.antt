@@ -1,5 +1,5 @@
 use Rattle.std.proofs.Common.{◌∙◌, sym, subst, length, ℕ, List, ◌<◌}
-use Rattle.role_order.specs.Lists.{Each}
+use Rattle.list_words.specs.Lists.{Each}
 use Rattle.question_writer.proofs.NamedLemmas.{each_below}
 use Rattle.question_writer.proofs.writing.put_set_line.Goals as goal
 

@@ -1,6 +1,6 @@
 use Rattle.std.proofs.Common.{ℕ, length, replicate, rules, Some, List}
 use Rattle.arbac_laws.specs.Needs.{CoversNeed, Covers}
-use Rattle.arbac_laws.specs.Places.{ArePlaces}
+use Rattle.list_words.specs.Places.{ArePlaces}
 use Rattle.hall_match.specs.Matchings.{AreEdges, IsMatching, IsLeast}
 use Rattle.req_core.specs.Covering.{AreCovering}
 use Rattle.req_core.proofs.CoverLemmas.{pairs_edges, matching_covers, none_covers}

@@ -1,6 +1,6 @@
 use Rattle.std.proofs.Common.{◌≡◌, ◌-◌, ◌∙◌, ap, sym, arith, Some, drop}
 use Rattle.std.specs.Prelude.{slice_get}
-use Rattle.role_order.proofs.ListLemmas.{get_at}
+use Rattle.list_words.proofs.GetLemmas.{get_at}
 use Rattle.req_core.specs.Raw.{needs_of}
 use Rattle.req_core.proofs.FormLemmas.{form_none, form_normal, one_user, places_below}
 use Rattle.req_core.proofs.forms.form_of.Goals as goal

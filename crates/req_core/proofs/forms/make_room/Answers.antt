@@ -1,7 +1,7 @@
 use Rattle.std.proofs.Common.{◌<◌, ◌+◌, ◌^◌, ◌∙◌, arith, subst, sym, ap, map, length, get_or, slice_set}
 use Rattle.req_core.specs.Forms.{moved}
-use Rattle.role_order.specs.Lists.{Each}
-use Rattle.role_order.proofs.ListLemmas.{each_at}
+use Rattle.list_words.specs.Lists.{Each}
+use Rattle.list_words.proofs.EachLemmas.{each_at}
 use Rattle.role_order.proofs.ClosureLemmas.{mapped_step, mapped_all, written_back}
 use Rattle.req_core.proofs.FormLemmas.{unchanged}
 use Rattle.req_core.proofs.forms.make_room.Goals as goal

@@ -2,7 +2,7 @@ use Rattle.std.proofs.Common.{◌≡◌, ◌∙◌, sym, ap, arith, refl, subst,
 use Rattle.std.specs.Prelude.{slice_get}
 use Rattle.std.specs.List.{list_any}
 use Rattle.role_order.specs.Roles.{less_roles}
-use Rattle.role_order.proofs.ListLemmas.{get_at}
+use Rattle.list_words.proofs.GetLemmas.{get_at}
 use Rattle.arbac_laws.specs.NormalForms.{bare_hits as bare}
 use Rattle.arbac_laws.specs.PreImages.{is_empty}
 use Rattle.req_core.specs.Raw.{need_of}

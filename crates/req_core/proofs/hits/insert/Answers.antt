@@ -1,7 +1,7 @@
 use Rattle.std.proofs.Common.{ℕ, ◌≡◌, ◌<◌, sym, ap, arith, ◌∙◌, subst, length, List, Some, true}
 use Rattle.std.specs.Prelude.{slice_get}
 use Rattle.role_order.specs.Orders.{set_before}
-use Rattle.role_order.proofs.ListLemmas.{get_at, get_within}
+use Rattle.list_words.proofs.GetLemmas.{get_at, get_within}
 use Rattle.req_core.proofs.HitLemmas.{insert_new, insert_kept}
 use Rattle.req_core.proofs.hits.insert.Goals as goal
 use Rattle.req_core.proofs.hits.insert.Goals.{then-at-len-via-then-at-len, then-at-len-via-else-at-len+then-before}

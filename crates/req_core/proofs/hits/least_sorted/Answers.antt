@@ -2,7 +2,7 @@ use Rattle.std.proofs.Common.{◌≡◌, ◌-◌, sym, ap, arith, ◌∙◌, Som
 use Rattle.std.specs.Prelude.{slice_get}
 use Rattle.std.specs.List.{list_any}
 use Rattle.role_order.specs.Orders.{set_before}
-use Rattle.role_order.proofs.ListLemmas.{get_at}
+use Rattle.list_words.proofs.GetLemmas.{get_at}
 use Rattle.arbac_laws.specs.NormalForms.{insert_once, is_less}
 use Rattle.req_core.proofs.HitLemmas.{sorted_step}
 use Rattle.req_core.proofs.hits.least_sorted.Goals as goal

@@ -1,6 +1,6 @@
 use Rattle.std.proofs.Common.{◌≡◌, ◌∙◌, ap, sym, arith, Some}
 use Rattle.std.specs.Prelude.{slice_get}
-use Rattle.role_order.proofs.ListLemmas.{get_at}
+use Rattle.list_words.proofs.GetLemmas.{get_at}
 use Rattle.arbac_laws.specs.PreImages.{add_hit as and_hit}
 use Rattle.req_core.specs.Raw.{needs_of}
 use Rattle.req_pre.proofs.BackwardLemmas.{change_past, change_raw, length_raw}

@@ -1,5 +1,5 @@
 use Rattle.std.proofs.Common.{◌<◌, ◌≤◌, ◌+◌, ◌*◌, ◌∙◌, map, drop, sym, ap, subst, arith, Some}
-use Rattle.role_order.proofs.ListLemmas.{each_at}
+use Rattle.list_words.proofs.EachLemmas.{each_at}
 use Rattle.arbac_policy.specs.Truth.{term_of}
 use Rattle.cond_text.specs.declared.TheConstants.{MOST_TERMS}
 use Rattle.cond_text.specs.Grammar.{term_count}

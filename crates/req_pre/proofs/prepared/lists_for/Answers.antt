@@ -1,6 +1,7 @@
 use Rattle.std.proofs.Common.{◌≡◌, ◌≤◌, ◌∙◌, ap, sym, length, Some, Vec, Global, arith}
 use Rattle.std.specs.Prelude.{slice_get}
-use Rattle.role_order.proofs.ListLemmas.{get_at, get_within, below_more, each_of}
+use Rattle.list_words.proofs.GetLemmas.{get_at, get_within, below_more}
+use Rattle.list_words.proofs.EachLemmas.{each_of}
 use Rattle.arbac_policy.specs.declared.rule.CanAssign.{CanAssign}
 use Rattle.arbac_rules.specs.declared.TheConstants.{MOST_CONJUNCTS}
 use Rattle.arbac_rules.specs.declared.conjunct.Conjunct.{Conjunct}

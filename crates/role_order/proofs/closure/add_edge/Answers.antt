@@ -1,6 +1,6 @@
 use Rattle.std.proofs.Common.{◌∙◌, ap, map, length, [], get_or, slice_set}
 use Rattle.role_order.specs.Closures.{raised_set}
-use Rattle.role_order.proofs.ListLemmas.{get_any}
+use Rattle.list_words.proofs.GetLemmas.{get_any}
 use Rattle.role_order.proofs.ClosureLemmas.{mapped_step, mapped_all, written_back}
 use Rattle.role_order.proofs.closure.add_edge.Goals as goal
 

@@ -3,7 +3,8 @@ use Rattle.std.specs.Prelude.{slice_get}
 use Rattle.std.proofs.lemmas.Bool.{false≢true}
 use Rattle.role_order.specs.Graph.{IsEdge}
 use Rattle.role_order.specs.Closures.{AreAbove, raised}
-use Rattle.role_order.proofs.ListLemmas.{get_at, each_at, take_one_more}
+use Rattle.list_words.proofs.GetLemmas.{get_at, take_one_more}
+use Rattle.list_words.proofs.EachLemmas.{each_at}
 use Rattle.role_order.proofs.ClosureLemmas.{raised_above, acyclic_more}
 use Rattle.role_order.proofs.closure.close.Goals as goal
 

@@ -1,7 +1,8 @@
 use Rattle.std.proofs.Common.{◌≡◌, ◌∙◌, sym, true, Some, ap, arith}
 use Rattle.std.proofs.lemmas.Bool.{false≢true}
 use Rattle.role_order.specs.Names.{texts, is_role_name}
-use Rattle.role_order.proofs.ListLemmas.{each_of, below_more}
+use Rattle.list_words.proofs.EachLemmas.{each_of}
+use Rattle.list_words.proofs.GetLemmas.{below_more}
 use Rattle.role_order.proofs.NameLemmas.{slice_get_texts, get_texts_of}
 use Rattle.role_order.proofs.names.first_bad.Goals as goal
 

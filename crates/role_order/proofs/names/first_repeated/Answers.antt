@@ -1,6 +1,7 @@
 use Rattle.std.proofs.Common.{◌∙◌, sym, Some, ap, arith, subst}
-use Rattle.role_order.specs.Names.{texts, place_of, AreDifferent}
-use Rattle.role_order.proofs.ListLemmas.{take_all}
+use Rattle.role_order.specs.Names.{texts, place_of}
+use Rattle.list_words.specs.Lists.{AreDifferent}
+use Rattle.list_words.proofs.GetLemmas.{take_all}
 use Rattle.role_order.proofs.NameLemmas.{slice_get_texts, texts-take, length_texts, different_more}
 use Rattle.role_order.proofs.names.first_repeated.Goals as goal
 

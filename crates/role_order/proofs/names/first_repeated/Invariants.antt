@@ -1,5 +1,6 @@
 use Rattle.std.proofs.Common.{take}
-use Rattle.role_order.specs.Names.{texts, AreDifferent}
+use Rattle.role_order.specs.Names.{texts}
+use Rattle.list_words.specs.Lists.{AreDifferent}
 use Rattle.role_order.proofs.names.first_repeated.Given as goal
 
 abbrev pub invariant-loop-at : goal.invariant-loop-at

@@ -1,7 +1,7 @@
 use Rattle.std.proofs.Common.{◌∙◌, ◌++◌, ◌∷◌, [], ap, sym, arith, take}
 use Rattle.std.specs.String.{string_bytes}
 use Rattle.role_order.specs.Names.{texts}
-use Rattle.role_order.proofs.ListLemmas.{take_all, take_one_more}
+use Rattle.list_words.proofs.GetLemmas.{take_all, take_one_more}
 use Rattle.role_order.proofs.NameLemmas.{slice_get_texts, texts-push, length_texts}
 use Rattle.role_order.proofs.order.copy_names.Goals as goal
 

@@ -1,7 +1,7 @@
 use Rattle.std.proofs.Common.{sym, ap}
 use Rattle.std.specs.Prelude.{slice_set}
 use Rattle.ura_core.proofs.AnswerLemmas.{granted_weaker, granted_always}
-use Rattle.role_order.proofs.ListLemmas.{get_within}
+use Rattle.list_words.proofs.GetLemmas.{get_within}
 use Rattle.ura_core.proofs.decision.decide_on.Goals as goal
 
 pub returns-in-None-clause-granted : goal.returns-in-None-clause-granted

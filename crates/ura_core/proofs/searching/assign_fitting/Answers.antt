@@ -1,7 +1,8 @@
 use Rattle.std.proofs.Common.{◌∙◌, ap, sym, arith, Some, subst}
 use Rattle.std.proofs.lemmas.Bool.{false≢true}
-use Rattle.role_order.specs.Lists.{Some_of, IsFirst}
-use Rattle.role_order.proofs.ListLemmas.{get_at, get_within, below_more, some_none}
+use Rattle.list_words.specs.Lists.{Some_of, IsFirst}
+use Rattle.list_words.proofs.GetLemmas.{get_at, get_within, below_more}
+use Rattle.list_words.proofs.EachLemmas.{some_none}
 use Rattle.arbac_policy.specs.declared.rule.CanAssign.{CanAssign}
 use Rattle.arbac_policy.specs.Verdicts.{FitsRule}
 use Rattle.ura_core.proofs.searching.assign_fitting.Goals as goal

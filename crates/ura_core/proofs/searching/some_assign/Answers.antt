@@ -1,8 +1,9 @@
 use Rattle.std.proofs.Common.{◌≡◌, ◌∙◌, ap, sym, arith, Some, refl, subst}
 use Rattle.std.specs.Prelude.{slice_get}
 use Rattle.std.proofs.lemmas.Bool.{false≢true}
-use Rattle.role_order.specs.Lists.{Some_of}
-use Rattle.role_order.proofs.ListLemmas.{get_at, get_within, below_more, some_at, some_none}
+use Rattle.list_words.specs.Lists.{Some_of}
+use Rattle.list_words.proofs.GetLemmas.{get_at, get_within, below_more}
+use Rattle.list_words.proofs.EachLemmas.{some_at, some_none}
 use Rattle.arbac_policy.specs.Steps.{LetsAssign}
 use Rattle.ura_core.proofs.searching.some_assign.Goals as goal
 

@@ -3,13 +3,14 @@ use Rattle.std.specs.Prelude.{filter, nat_lt, slice_set}
 use Rattle.role_order.specs.Roles.{IsIn, has_role}
 use Rattle.arbac_policy.specs.Steps.{WeakSteps}
 use Rattle.arbac_policy.specs.Verdicts.{WeaksDenied}
-use Rattle.ura_core.proofs.StepLemmas.{below_next, below_same, below_all, below_none, split_at, weak_steps_more, weaks_denied_at, set_same}
+use Rattle.ura_core.proofs.StepLemmas.{below_next, below_same, below_all, below_none, split_at, weak_steps_more, weaks_denied_at}
+use Rattle.list_words.proofs.GetLemmas.{set_itself}
 use Rattle.ura_core.proofs.FallingLemmas.{falling_below}
 use Rattle.ura_core.proofs.strong.revoke_all.Goals.{then-has+in-Granted, else-has}
 use Rattle.ura_core.proofs.strong.revoke_all.Goals as goal
 
 pub loop-role-init : goal.loop-role-init
-loop-role-init c = rw (below_none c.falling-falling.result) (set_same c.args.list.now c.args.act.now.target c.args.set.now c.requires.set)
+loop-role-init c = rw (below_none c.falling-falling.result) (set_itself c.args.list.now c.args.act.now.target c.args.set.now c.requires.set)
 
 pub returns-in-Denied-clause-denied : goal.returns-in-Denied-clause-denied
 returns-in-Denied-clause-denied c =

@@ -2,7 +2,8 @@ use Rattle.std.proofs.Common.{ℕ, ◌∙◌, List, sym, ap, inr, rules}
 use Rattle.arbac_policy.specs.Holders.{admins_of}
 use Rattle.arbac_policy.specs.Verdicts.{WeakDenied}
 use Rattle.std.specs.Prelude.{slice_set}
-use Rattle.ura_core.proofs.StepLemmas.{get_set_here, set_twice}
+use Rattle.ura_core.proofs.StepLemmas.{get_set_here}
+use Rattle.list_words.proofs.GetLemmas.{set_twice}
 use Rattle.ura_core.proofs.strong.revoke_one.Goals as goal
 
 pub returns-in-Some-against_revoke-clause-denied : goal.returns-in-Some-against_revoke-clause-denied

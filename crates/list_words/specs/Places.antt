@@ -1,6 +1,6 @@
 -- Injective maps as lists of places, and why there is none.
-use Rattle.std.specs.Prelude.{ℕ, ◌≡◌, ◌<◌, List, [], ◌∷◌, length, get_or, slice_get, Some}
-use Rattle.role_order.specs.Lists.{Each, Some_of}
+use Rattle.std.specs.Prelude.{ℕ, ◌≡◌, ◌<◌, List, length, get_or, slice_get, Some}
+use Rattle.list_words.specs.Lists.{Each, Some_of, AreDifferent}
 
 -- the places, one for each item of the first list, are different, and each item stands to the item
 -- of the second list at its place as R says
@@ -8,11 +8,6 @@ pub record ArePlaces {A B : Type 0} (R : A → B → Type 0) (xs : List A) (ys :
   pub long : length places ≡ length xs
   pub apart : (i j : ℕ) → i < length places → j < length places → get_or places i 0 ≡ get_or places j 0 → i ≡ j
   pub each : (i : ℕ) (x : A) → slice_get xs i ≡ Some x → (y : B) × (slice_get ys (get_or places i 0) ≡ Some y) × R x y
-
--- no number twice
-abbrev pub AreDifferent : List ℕ → Type 0
-AreDifferent [] = Unit {0}
-AreDifferent (x ∷ xs) = Each (λ y. ¬ (x ≡ y)) xs × AreDifferent xs
 
 -- the item at the place stands so to items at these places alone
 abbrev pub OnlyAmong : {A B : Type 0} → (A → B → Type 0) → List A → List B → List ℕ → ℕ → Type 0

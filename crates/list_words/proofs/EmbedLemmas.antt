@@ -1,55 +1,10 @@
 -- Injective maps: composed, extended and read.
-use Rattle.std.proofs.Common.{ℕ, ◌≡◌, ◌<◌, ◌+◌, List, [], ◌∷◌, ◌++◌, length, None, Some, arith, zero, suc, sym, ◌∙◌, ap, eqb, Bool, cond, true, false, subst, refl, inl, inr}
-use Rattle.std.specs.Prelude.{slice_get, slice_set, ◌⊎◌}
+use Rattle.std.proofs.Common.{ℕ, ◌≡◌, ◌<◌, Bool, true, false, eqb, List, [], ◌∷◌, Some, length, refl, arith, zero, suc, sym, ◌∙◌, ap, subst, inl, inr}
+use Rattle.std.specs.Prelude.{◌⊎◌, slice_get}
 use Rattle.std.proofs.lemmas.Bool.{eqb-true, eq-eqb}
-use Rattle.arbac_policy.specs.Embeds.{Embeds}
-
-pub get_below : {A : Type 0} (xs : List A) (i : ℕ) (x : A) → slice_get xs i ≡ Some x → i < length xs
-get_below [] i x e = cc
-get_below (y ∷ ys) zero x e = omega arith
-get_below (y ∷ ys) (suc i) x e = let r = get_below ys i x e in omega (arith, r)
-
-pub get_there : {A : Type 0} (xs : List A) (i : ℕ) → i < length xs → (x : A) × (slice_get xs i ≡ Some x)
-get_there [] i l = absurd (omega arith)
-get_there (x ∷ xs) zero l = (x, refl)
-get_there (x ∷ xs) (suc i) l = get_there xs i (omega arith)
-
-pub get_set_same : {A : Type 0} (xs : List A) (i : ℕ) (v : A) → i < length xs → slice_get (slice_set xs i v) i ≡ Some v
-get_set_same [] i v l = absurd (omega arith)
-get_set_same (x ∷ xs) zero v l = refl
-get_set_same (x ∷ xs) (suc i) v l = get_set_same xs i v (omega arith)
-
-pub get_set_other : {A : Type 0} (xs : List A) (i j : ℕ) (v : A) → (i ≡ j → ⊥) → slice_get (slice_set xs i v) j ≡ slice_get xs j
-get_set_other [] i j v ne = refl
-get_set_other (x ∷ xs) zero zero v ne = absurd (ne refl)
-get_set_other (x ∷ xs) zero (suc j) v ne = refl
-get_set_other (x ∷ xs) (suc i) zero v ne = refl
-get_set_other (x ∷ xs) (suc i) (suc j) v ne = get_set_other xs i j v (λ e. ne (ap suc e))
-
-pub length_set : {A : Type 0} (xs : List A) (i : ℕ) (v : A) → length (slice_set xs i v) ≡ length xs
-length_set [] i v = refl
-length_set (x ∷ xs) zero v = refl
-length_set (x ∷ xs) (suc i) v = ap suc (length_set xs i v)
-
-pub get_append : {A : Type 0} (xs : List A) (y : A) (i : ℕ) → i < length xs → slice_get (xs ++ y ∷ []) i ≡ slice_get xs i
-get_append [] y i l = absurd (omega arith)
-get_append (x ∷ xs) y zero l = refl
-get_append (x ∷ xs) y (suc i) l = get_append xs y i (omega arith)
-
-pub get_last : {A : Type 0} (xs : List A) (y : A) → slice_get (xs ++ y ∷ []) (length xs) ≡ Some y
-get_last [] y = refl
-get_last (x ∷ xs) y = get_last xs y
-
-pub length_more : {A : Type 0} (xs : List A) (y : A) → length (xs ++ y ∷ []) ≡ length xs + 1
-length_more [] y = refl
-length_more (x ∷ xs) y = let r = length_more xs y in omega (arith, r)
-
-pub same_some : {A : Type 0} (x y : A) → Some x ≡ Some y → x ≡ y
-same_some x y e = cc
-
-pub some_cond : {A : Type 0} (t : Bool) (x y : A) → cond t None (Some x) ≡ Some y → (t ≡ false) × (x ≡ y)
-some_cond true x y e = cc
-some_cond false x y e = (refl, cc)
+use Rattle.list_words.specs.Embeds.{Embeds}
+use Rattle.list_words.proofs.NumberLemmas.{cases_eq}
+use Rattle.list_words.proofs.GetLemmas.{get_below, get_there}
 
 -- two maps, one after the other
 pub compose : {A B C : Type 0} (R : A → B → Type 0) (S : B → C → Type 0) (T : A → C → Type 0) (xs : List A) (ys : List B) (zs : List C)
@@ -65,29 +20,6 @@ compose R S T xs ys zs through f g = record {
   where
     below : (i : ℕ) → i < length xs → f.to i < length ys
     below i l = let x = get_there xs i l in let y = f.each i x.0 x.1 in get_below ys (f.to i) y.0 y.1
-
--- two places are one, or are not
-pub cases_eq : (i j : ℕ) → (i ≡ j) ⊎ (i ≡ j → ⊥)
-cases_eq zero zero = inl refl
-cases_eq zero (suc j) = inr (λ e. omega arith)
-cases_eq (suc i) zero = inr (λ e. omega arith)
-cases_eq (suc i) (suc j) = by_rest (cases_eq i j)
-  where
-    by_rest : (i ≡ j) ⊎ (i ≡ j → ⊥) → (suc i ≡ suc j) ⊎ (suc i ≡ suc j → ⊥)
-    by_rest (inl e) = inl (ap suc e)
-    by_rest (inr n) = inr (λ e. n (omega arith))
-
--- one place is before the other, or they are one
-pub compare : (i j : ℕ) → (i < j) ⊎ ((i ≡ j) ⊎ (j < i))
-compare zero zero = inr (inl refl)
-compare zero (suc j) = inl (omega arith)
-compare (suc i) zero = inr (inr (omega arith))
-compare (suc i) (suc j) = lifted (compare i j)
-  where
-    lifted : (i < j) ⊎ ((i ≡ j) ⊎ (j < i)) → (suc i < suc j) ⊎ ((suc i ≡ suc j) ⊎ (suc j < suc i))
-    lifted (inl l) = inl (omega arith)
-    lifted (inr (inl e)) = inr (inl (ap suc e))
-    lifted (inr (inr l)) = inr (inr (omega arith))
 
 -- a place below the number goes there, or none does
 pub find_place : (to : ℕ → ℕ) (p n : ℕ) → ((t : ℕ) × (t < n) × (to t ≡ p)) ⊎ ((i : ℕ) → i < n → to i ≡ p → ⊥)

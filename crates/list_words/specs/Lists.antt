@@ -1,4 +1,4 @@
--- Words on lists that the other definitions share.
+-- What holds of items of a list: of each, of some, of the first; and lists whose items differ.
 use Rattle.std.specs.Prelude.{ℕ, ◌≡◌, ◌<◌, List, [], ◌∷◌, ◌⊎◌, slice_get, Some}
 
 -- P holds of each item
@@ -21,3 +21,7 @@ pub record IsFirst {A : Type 0} (P : A → Type 0) (xs : List A) (place : ℕ) :
   pub at : slice_get xs place ≡ Some item
   pub holds : P item
   pub none_before : (k : ℕ) (x : A) → k < place → slice_get xs k ≡ Some x → ¬ P x
+
+-- no item stands at two places
+abbrev pub AreDifferent : {A : Type 0} → List A → Type 0
+AreDifferent {A} xs = (i j : ℕ) (x : A) → slice_get xs i ≡ Some x → slice_get xs j ≡ Some x → i ≡ j

@@ -1,9 +1,9 @@
 -- An injective map is a list of places.
-use Rattle.std.proofs.Common.{ℕ, ◌≡◌, ◌<◌, List, [], ◌∷◌, length, get_or, arith, zero, suc, sym, ◌∙◌, ap, subst, refl}
+use Rattle.std.proofs.Common.{ℕ, ◌≡◌, ◌<◌, List, [], ◌∷◌, length, get_or, refl, arith, zero, suc, sym, ◌∙◌, ap, subst}
 use Rattle.std.specs.Prelude.{slice_get}
-use Rattle.arbac_policy.specs.Embeds.{Embeds}
-use Rattle.arbac_laws.specs.Places.{ArePlaces}
-use Rattle.arbac_laws.proofs.MapLemmas.{get_below}
+use Rattle.list_words.specs.Embeds.{Embeds}
+use Rattle.list_words.specs.Places.{ArePlaces}
+use Rattle.list_words.proofs.GetLemmas.{get_below}
 
 abbrev pub told : (ℕ → ℕ) → ℕ → List ℕ
 told to zero = []

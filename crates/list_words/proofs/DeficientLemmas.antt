@@ -1,11 +1,10 @@
 -- Items whose neighbours are fewer have no injective map.
-use Rattle.std.proofs.Common.{ℕ, ◌≡◌, ◌<◌, ◌≤◌, ◌+◌, List, [], ◌∷◌, length, arith, sym, ◌∙◌, refl, inl, inr}
-use Rattle.role_order.specs.Lists.{Each, Some_of}
-use Rattle.arbac_policy.specs.Embeds.{Embeds}
-use Rattle.arbac_laws.specs.Places.{AreDifferent, OnlyAmong}
-use Rattle.arbac_laws.proofs.ListLemmas.{each_by, each_some}
-use Rattle.arbac_laws.proofs.MapLemmas.{get_there}
-use Rattle.arbac_laws.specs.Places.{AreDeficient}
+use Rattle.std.proofs.Common.{ℕ, ◌≡◌, ◌<◌, ◌≤◌, ◌+◌, List, [], ◌∷◌, length, refl, arith, sym, ◌∙◌, inl, inr}
+use Rattle.list_words.specs.Lists.{Each, Some_of, AreDifferent}
+use Rattle.list_words.specs.Embeds.{Embeds}
+use Rattle.list_words.specs.Places.{OnlyAmong, AreDeficient}
+use Rattle.list_words.proofs.GetLemmas.{get_there}
+use Rattle.list_words.proofs.EachLemmas.{each_by, each_some, different_rest}
 
 -- one item taken out of a list, and the others that are still in it
 pub taken_out : (x : ℕ) (ys : List ℕ) → Some_of (λ y. y ≡ x) ys → (rest : List ℕ) × (length ys ≡ length rest + 1) × ((z : ℕ) → (x ≡ z → ⊥) → Some_of (λ y. y ≡ z) ys → Some_of (λ y. y ≡ z) rest)
@@ -25,7 +24,8 @@ taken_out x (y ∷ ys) (inr i) = let r = taken_out x ys i in let long = r.1 in (
 pub few : (to : ℕ → ℕ) (items among : List ℕ) → AreDifferent items → ((i j : ℕ) → Some_of (λ v. v ≡ i) items → Some_of (λ v. v ≡ j) items → to i ≡ to j → i ≡ j)
     → Each (λ i. Some_of (λ v. v ≡ to i) among) items → length items ≤ length among
 few to [] among d f h = omega arith
-few to (x ∷ xs) among d f h =
+few to (x ∷ xs) among different f h =
+    let d = different_rest x xs different in
     let r = taken_out (to x) among h.0 in
     let again = few to xs r.0 d.1 (λ i j a b. f i j (inr a) (inr b))
     (each_by (λ i. Some_of (λ v. v ≡ to i) r.0) xs (λ i a.

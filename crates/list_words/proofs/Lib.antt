@@ -1,0 +1,9 @@
+pub mod TestLemmas
+pub mod NumberLemmas
+pub mod GetLemmas
+pub mod EachLemmas
+pub mod EmbedLemmas
+pub mod PlaceLemmas
+pub mod CountLemmas
+pub mod OrderLemmas
+pub mod DeficientLemmas

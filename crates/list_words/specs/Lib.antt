@@ -1,0 +1,4 @@
+pub mod Lists
+pub mod Embeds
+pub mod Places
+pub mod Orders
