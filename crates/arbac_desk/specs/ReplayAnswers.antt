@@ -1,5 +1,5 @@
--- What `replay` answers to the bytes of its file.
-use Rattle.std.specs.Prelude.{ℕ, ◌≡◌, ◌≢◌, ◌<◌, ◌≤◌, ◌⊎◌, List, length, map, codes, Option, Some, None}
+-- What `replay` answers, by the bytes of its file.
+use Rattle.std.specs.Prelude.{ℕ, ◌≡◌, ◌≢◌, ◌<◌, ◌≤◌, ◌⊎◌, List, length, map}
 use Rattle.arbac_policy.specs.declared.verdict.Part.{Part}
 use Rattle.arbac_policy.specs.Truth.{term_of}
 use Rattle.arbac_policy.specs.Steps.{Run as IsRun}
@@ -11,12 +11,14 @@ use Rattle.policy_text.specs.Runs.{RunValue, StandsFor, plain_of, IsForUsers}
 use Rattle.policy_text.specs.Faults.{IsFirstFault}
 use Rattle.plan_replay.specs.Replays.{StopsAt}
 use Rattle.plan_replay.specs.GoalLists.{AreLeast}
+use Rattle.desk_ports.specs.Shelves.{ShelfView}
+use Rattle.desk_ports.specs.Sinks.{SinkView}
+use Rattle.desk_texts.specs.Faults.{run_fault, too_long}
+use Rattle.desk_texts.specs.Lines.{malformed_line, read_fault_line}
 use Rattle.arbac_desk.specs.declared.TheConstants.{MOST_RUN_BYTES}
-use Rattle.arbac_desk.specs.declared.reply.Reply.{Reply}
-use Rattle.arbac_desk.specs.declared.reply.Reply.TheVariants.{Done, Unmet, Stopped, Malformed}
-use Rattle.arbac_desk.specs.Texts.{done_text, unmet_text, stopped_text}
-use Rattle.arbac_desk.specs.Faults.{run_text, malformed_line, read_fault_line}
-use Rattle.arbac_desk.specs.Words.{usage_line}
+use Rattle.arbac_desk.specs.Statuses.{DONE, MALFORMED, READ_FAULT, REFUSED}
+use Rattle.arbac_desk.specs.Answers.{AreTold, HasFetched, HasMissed, Says}
+use Rattle.arbac_desk.specs.ReplayTexts.{done_text, unmet_text, stopped_text}
 
 -- the bytes, few enough, are a run text, and its acts are a run from its users to these sets
 pub record EndsAt (bytes : List ℕ) (run : Run) (sets : List (List ℕ)) : Type 0 where
@@ -63,31 +65,38 @@ pub record IsNoRun (bytes : List ℕ) (fault : RunError) : Type 0 where
 -- the bytes are too many, or no run text; the line names the file and the fault
 abbrev pub IsMalformed : List ℕ → List ℕ → List ℕ → Type 0
 IsMalformed name bytes text =
-    ((MOST_RUN_BYTES < length bytes) × (text ≡ malformed_line name (codes "TooLong")))
-    ⊎ ((length bytes ≤ MOST_RUN_BYTES) × (fault : RunError) × IsNoRun bytes fault × (text ≡ malformed_line name (run_text fault)))
+    ((MOST_RUN_BYTES < length bytes) × (text ≡ malformed_line name too_long))
+    ⊎ ((length bytes ≤ MOST_RUN_BYTES) × (fault : RunError) × IsNoRun bytes fault × (text ≡ malformed_line name (run_fault fault)))
 
--- the reply is the one to these bytes of the file
-abbrev pub RepliesTo : List ℕ → List ℕ → Reply → Type 0
-RepliesTo name bytes (Done text) = IsDone bytes text.items
-RepliesTo name bytes (Unmet text) = IsUnmet bytes text.items
-RepliesTo name bytes (Stopped text) = IsStopped bytes text.items
-RepliesTo name bytes (Malformed text) = IsMalformed name bytes text.items
+-- the status and the text are those to these bytes of the file
+abbrev pub IsReplyTo : List ℕ → List ℕ → ℕ → List ℕ → Type 0
+IsReplyTo name bytes status text =
+    ((status ≡ DONE) × IsDone bytes text)
+    ⊎ (((status ≡ REFUSED) × (IsUnmet bytes text ⊎ IsStopped bytes text))
+    ⊎ ((status ≡ MALFORMED) × IsMalformed name bytes text))
 
--- the bytes are those that the shelf tells, if it tells any
-abbrev pub AreTold : Option (List ℕ) → List ℕ → Type 0
-AreTold None bytes = Unit {0}
-AreTold (Some all) bytes = bytes ≡ all
+-- the file couldn't be read
+pub record IsUnread (name : List ℕ) (shelf shelf' : ShelfView) (status : ℕ) (text : List ℕ) : Type 0 where
+  pub told : status ≡ READ_FAULT
+  pub missed : HasMissed shelf shelf' name
+  pub text_is : text ≡ read_fault_line name
 
--- the text is one that `replay` writes to these bytes of the file
-abbrev pub IsReplyText : List ℕ → List ℕ → List ℕ → Type 0
-IsReplyText name bytes text = IsDone bytes text ⊎ (IsUnmet bytes text ⊎ (IsStopped bytes text ⊎ IsMalformed name bytes text))
+-- the file was read, and its bytes have this reply
+pub record IsReplied (name : List ℕ) (shelf shelf' : ShelfView) (status : ℕ) (text : List ℕ) : Type 0 where
+  pub fetched : HasFetched shelf shelf'
+  pub bytes : List ℕ
+  pub told : AreTold (shelf.told name) bytes
+  pub reply : IsReplyTo name bytes status text
 
--- the text is one that is written where the file is fetched: the line of a fetch that failed, or the reply to its bytes
-abbrev pub IsFileText : List ℕ → Type 0 → Option (List ℕ) → List ℕ → Type 0
-IsFileText name failed told text =
-    (failed × (text ≡ read_fault_line name)) ⊎ ((bytes : List ℕ) × AreTold told bytes × IsReplyText name bytes text)
+-- what is to be written, and with which status
+abbrev pub IsReplayReply : List ℕ → ShelfView → ShelfView → ℕ → List ℕ → Type 0
+IsReplayReply name shelf shelf' status text = IsReplied name shelf shelf' status text ⊎ IsUnread name shelf shelf' status text
 
--- the text is one that is written to these words
-abbrev pub IsText : Option (List ℕ) → (List ℕ → Type 0) → (List ℕ → Option (List ℕ)) → List ℕ → Type 0
-IsText None failed told text = text ≡ usage_line
-IsText (Some name) failed told text = IsFileText name (failed name) (told name) text
+-- the answer to `replay RUN`: one file is fetched, and one text is written
+pub record IsReplayAnswer (run : List ℕ) (shelf shelf' : ShelfView) (sink sink' : SinkView) (status : ℕ) : Type 0 where
+  pub asked : HasFetched shelf shelf' ⊎ HasMissed shelf shelf' run
+  pub says : Says (IsReplayReply run shelf shelf') sink sink' status
+
+-- the bytes, few enough, are a run text
+abbrev pub IsRunText : List ℕ → Type 0
+IsRunText bytes = (length bytes ≤ MOST_RUN_BYTES) × (value : RunValue) × StandsFor bytes value
