@@ -6,6 +6,7 @@ ghost use Rattle.cond_text.specs.Views.{frame_of, stack_of, state_of};
 ghost use Rattle.cond_text.specs.Machine as machine;
 ghost use Rattle.cond_text.specs.Machine.{and_with, or_with, operand_read, closing};
 
+use crate::NoMemory;
 use crate::word::Word;
 use arbac_policy::Cond;
 use sqlite_items::Boxed;
@@ -51,7 +52,7 @@ fn and_of(alloc: Global, left: Option<Cond>, right: Cond) -> Result<Cond, AllocE
 }
 
 /// The condition with what stands before its `or`, if there is one.
-pub fn or_of(alloc: Global, left: Option<Cond>, right: Cond) -> Result<Cond, AllocError>
+pub fn or_of(alloc: Global, left: Option<Cond>, right: Cond) -> Result<Cond, NoMemory>
     ensures { IfOk result (λ cond. term_of cond ≡ or_with (option_map term_of left) (term_of right)) }
 {
     match left {
@@ -179,7 +180,7 @@ fn step_conjunction(
 }
 
 /// The state behind the word, and none where the word can't stand here.
-pub fn step(alloc: Global, state: State, word: Word) -> Result<Option<State>, AllocError>
+pub fn step(alloc: Global, state: State, word: Word) -> Result<Option<State>, NoMemory>
     ensures { IfOk result (λ o. option_map state_of o ≡ machine.step (state_of state) word) }
 {
     match state {

@@ -7,6 +7,7 @@ ghost use Rattle.role_order.specs.Names as role_names;
 ghost use Rattle.cond_text.specs.Words as words;
 ghost use Rattle.cond_text.specs.Words.{placed};
 
+use crate::NoMemory;
 use crate::word::{Placed, Word};
 use role_order::{Order, is_name_byte};
 use std::alloc::{AllocError, Global};
@@ -119,7 +120,7 @@ fn add_word(list: &mut Vec<Placed>, place: u32, word: Option<Word>) -> Result<()
 }
 
 /// The words of the text, each with the place of its first byte.
-pub fn placed_words(alloc: Global, order: &Order, text: &[u8]) -> Result<Vec<Placed>, AllocError>
+pub fn placed_words(alloc: Global, order: &Order, text: &[u8]) -> Result<Vec<Placed>, NoMemory>
     requires { length text.now < 2 ^ 32 }
     ensures { IfOk result (λ list. list.items ≡ words.placed_words order.now.names text.now) }
 {

@@ -7,6 +7,7 @@ ghost use Rattle.profile_set.specs.Groups.{RiseBySet, IsGroup};
 ghost use Rattle.profile_set.specs.Tallies as tallies;
 ghost use Rattle.profile_set.specs.Tallies.{HasRoom};
 
+use crate::NoMemory;
 use arbac_policy::Profile;
 use role_order::RoleSet;
 use std::alloc::{AllocError, Global};
@@ -48,7 +49,7 @@ fn add_member(profiles: &mut Vec<Profile>, set: &RoleSet) -> Result<(), AllocErr
 
 /// One profile for each different set of the members, in the order of sets, with the number of
 /// members that have the set.
-pub fn group(alloc: Global, members: &[RoleSet]) -> Result<Vec<Profile>, AllocError>
+pub fn group(alloc: Global, members: &[RoleSet]) -> Result<Vec<Profile>, NoMemory>
     requires { length members.now < 2 ^ 32 }
     // What is made is the group.
     ensures group { IfOk result (λ profiles. IsGroup members.now profiles.items) }

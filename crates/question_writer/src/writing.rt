@@ -12,6 +12,7 @@ ghost use Rattle.question_writer.specs.Texts.{line, quoted, listed, role_text, p
 ghost use Rattle.question_writer.specs.Texts.{exclusive_text, goal_text, assign_text, revoke_text, profile_text, keys_text, tables_text, question_text};
 ghost use Rattle.question_text.specs.Values.{plain_of};
 
+use crate::NoMemory;
 use crate::pieces::{
     put_condition, put_conditions, put_header, put_key, put_names, put_pairs, put_quoted,
     put_range, put_role, put_roles, roles_of,
@@ -309,7 +310,7 @@ fn put_tables(alloc: Global, text: &mut Vec<u8>, question: &Question) -> Result<
 }
 
 /// The text of the question, which reads as the question.
-pub fn write_question(alloc: Global, question: &Question) -> Result<Vec<u8>, AllocError>
+pub fn write_question(alloc: Global, question: &Question) -> Result<Vec<u8>, NoMemory>
     requires { KeepsRules (plain_of question.now) }
     ensures text { IfOk result (λ bytes. bytes.items ≡ question_text (plain_of question.now)) }
     // The text stands for the question, also where a goal is needed, unless the question has none.

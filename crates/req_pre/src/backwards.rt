@@ -19,6 +19,7 @@ ghost use Rattle.req_pre.specs.Preparing.{conjuncts_of};
 ghost use Rattle.req_pre.specs.Views.{owed_of, pick_of};
 ghost use Rattle.req_pre.specs.Answers.{ArePrePlaces};
 
+use crate::NoMemory;
 use crate::owed::{Obligation, Pick};
 use crate::prepared::Prepared;
 use crate::raw::raw_user;
@@ -343,7 +344,7 @@ pub fn pre(
     prepared: &Prepared,
     req: &Req,
     ob: &Obligation,
-) -> Result<Option<Normal>, AllocError>
+) -> Result<Option<Normal>, NoMemory>
     ensures form { IfOk result (λ normal. form_in normal ≡ pre_form prepared.now req.now (owed_of ob.now)) }
     ensures places { IfOk result (λ normal. IfSome normal (ArePrePlaces prepared.now req.now (owed_of ob.now))) }
 {

@@ -6,8 +6,8 @@ ghost use Rattle.list_words.specs.Lists.{IsFirst};
 ghost use Rattle.role_order.specs.Closures.{AreAbove, HasAt, AreTurned, IfTable, IfCycle, raised, raised_set};
 ghost use Rattle.role_order.specs.Roles.{IsIn, Rises};
 
-use crate::MOST_ROLES;
 use crate::role_set::RoleSet;
+use crate::{MOST_ROLES, NoMemory};
 use std::alloc::{AllocError, Global};
 
 /// What comes of taking up edges one after another.
@@ -66,7 +66,7 @@ fn add_edge(above: &mut Vec<RoleSet>, senior: u16, junior: u16)
 }
 
 /// The sets of the roles above each role by these edges, or the first edge that closes a cycle.
-pub fn close(alloc: Global, count: u16, edges: &[(u16, u16)]) -> Result<Closure, AllocError>
+pub fn close(alloc: Global, count: u16, edges: &[(u16, u16)]) -> Result<Closure, NoMemory>
     requires count { count ≤ MOST_ROLES }
     requires ends { AreEdges count edges.now }
     ensures table { IfOk result (λ closure. IfTable closure (λ above. AreAbove count edges.now above × AreAcyclic edges.now)) }
@@ -101,7 +101,7 @@ fn juniors_in(above: &[RoleSet], senior: u16) -> RoleSet
 }
 
 /// The sets of the roles below each role, of those of the roles above each.
-pub fn turn_sets(alloc: Global, above: &[RoleSet]) -> Result<Vec<RoleSet>, AllocError>
+pub fn turn_sets(alloc: Global, above: &[RoleSet]) -> Result<Vec<RoleSet>, NoMemory>
     requires { length above.now ≤ MOST_ROLES }
     ensures { IfOk result (λ below. AreTurned above.now (length above.now) below.items) }
 {

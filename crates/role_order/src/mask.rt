@@ -1,7 +1,8 @@
 //! Single bits of masks.
 
 ghost use Rattle.std.specs.Prelude.{ℕ, ◌≡◌, ◌≤◌, ◌<◌, ◌^◌, false, IfSome, IfNone};
-ghost use Rattle.role_order.specs.Masks.{has_bit as is_set, IsNextBit};
+ghost use Rattle.role_order.specs.Masks as masks;
+ghost use Rattle.role_order.specs.Masks.{IsNextBit};
 
 use crate::MASK_BITS;
 
@@ -15,7 +16,7 @@ pub fn bit(place: u16) -> u128
 
 /// Whether the bit at the place is set.
 pub fn has_bit(mask: u128, place: u16) -> bool
-    ensures { result ≡ is_set mask place }
+    ensures { result ≡ masks.has_bit mask place }
 {
     place < MASK_BITS && mask & bit(place) != 0
 }
@@ -23,7 +24,7 @@ pub fn has_bit(mask: u128, place: u16) -> bool
 /// The first set bit from the place on.
 pub fn next_bit(mask: u128, from: u16) -> Option<u16>
     ensures found { IfSome result (IsNextBit mask from) }
-    ensures none { IfNone result ((k : ℕ) → from ≤ k → is_set mask k ≡ false) }
+    ensures none { IfNone result ((k : ℕ) → from ≤ k → masks.has_bit mask k ≡ false) }
 {
     if from >= MASK_BITS {
         return None;

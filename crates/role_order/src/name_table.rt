@@ -2,14 +2,15 @@
 
 ghost use Rattle.std.specs.Prelude.{ℕ, ◌≡◌, ◌<◌, ◌≤◌, length, All, Contains, IfOk, IfSome};
 ghost use Rattle.list_words.specs.Lists.{AreDifferent};
-ghost use Rattle.role_order.specs.Names.{texts, place_of, name_at as name_of, IsNameTable};
+ghost use Rattle.role_order.specs.Names as words;
+ghost use Rattle.role_order.specs.Names.{texts, place_of, IsNameTable};
 
-use crate::MOST_ROLES;
+use crate::{MOST_ROLES, NoMemory};
 use std::alloc::{AllocError, Global};
 
 /// The bytes of the name with the number, and none where there is no such name.
 fn name_at(names: &[String], role: u16) -> &[u8]
-    ensures { result.now ≡ name_of (texts names.now) role }
+    ensures { result.now ≡ words.name_at (texts names.now) role }
 {
     match names.get(role as usize) {
         Some(name) => name.as_bytes(),
@@ -30,7 +31,7 @@ fn numbers(alloc: Global, count: u16) -> Result<Vec<u16>, AllocError>
 }
 
 /// The numbers of the names, sorted by name.
-pub fn sorted_by_name(alloc: Global, names: &[String]) -> Result<Vec<u16>, AllocError>
+pub fn sorted_by_name(alloc: Global, names: &[String]) -> Result<Vec<u16>, NoMemory>
     requires { length names.now ≤ MOST_ROLES }
     ensures { IfOk result (λ table. IsNameTable (texts names.now) table.items) }
 {

@@ -15,7 +15,7 @@ use crate::name_table::{number_of, sorted_by_name};
 use crate::names::{first_bad, first_repeated};
 use crate::range::Range;
 use crate::role_set::RoleSet;
-use crate::{MOST_NAME_BYTES, MOST_ROLES};
+use crate::{MOST_NAME_BYTES, MOST_ROLES, NoMemory};
 use std::alloc::{AllocError, Global};
 use std::marker::Model;
 
@@ -316,7 +316,7 @@ impl Order {
     }
 
     /// The dual order: the same names, and each edge turned round.
-    pub fn reversed(&self, alloc: Global) -> Result<Order, AllocError>
+    pub fn reversed(&self, alloc: Global) -> Result<Order, NoMemory>
         ensures names { IfOk result (λ o. o.names ≡ self.now.names) }
         ensures edges { IfOk result (λ o. o.edges ≡ map turned self.now.edges) }
         ensures geq { IfOk result (λ o. (x y : ℕ) → Leads o.edges x y ↔ Leads self.now.edges y x) }
