@@ -1,7 +1,7 @@
 //! Pre-images.
 
 ghost use Rattle.std.specs.Prelude.{ℕ, ◌≡◌, ◌<◌, ◌++◌, [], ◌∷◌, not, if◌then◌else◌, length, map, filter, slice_get, slice_set};
-ghost use Rattle.std.specs.Prelude.{option_map, IfOk, IfSome, OnOk};
+ghost use Rattle.std.specs.Prelude.{◌↔◌, option_map, IfOk, IfSome, IsNone, IsTrue, OnOk};
 ghost use Rattle.std.specs.List.{list_any};
 ghost use Rattle.list_words.specs.Lists.{Each};
 ghost use Rattle.role_order.specs.Reach.{seniors_of};
@@ -17,7 +17,7 @@ ghost use Rattle.req_core.specs.Answers.{form_in};
 ghost use Rattle.arbac_laws.specs.Views.{need_of, needs_of};
 ghost use Rattle.req_pre.specs.Preparing.{conjuncts_of};
 ghost use Rattle.req_pre.specs.Views.{owed_of, pick_of};
-ghost use Rattle.req_pre.specs.Answers.{ArePrePlaces};
+ghost use Rattle.req_pre.specs.Answers.{ArePrePlaces, HasAdmin, IsThere};
 
 use crate::NoMemory;
 use crate::owed::{Obligation, Pick};
@@ -336,18 +336,43 @@ fn pre_weak(
     Ok(form)
 }
 
+/// Whether the administrator is the target, new, or one of so many users.
+fn is_there(admin: Pick, count: usize) -> bool
+    ensures { IsTrue result ↔ IsThere count (pick_of admin) }
+{
+    match admin {
+        Pick::Itself => true,
+        Pick::Other(place) => (place as usize) < count,
+        Pick::Fresh => true,
+    }
+}
+
+/// Whether the obligation's administrator is there, in a requirement of so many users.
+fn has_admin(ob: &Obligation, count: usize) -> bool
+    ensures { IsTrue result ↔ HasAdmin count (owed_of ob.now) }
+{
+    match *ob {
+        Obligation::Assign { admin, .. } => is_there(admin, count),
+        Obligation::Weak { admin, .. } => is_there(admin, count),
+    }
+}
+
 /// What a population must meet before the act of the obligation, in normal form; none exactly where nothing will
-/// do, or where one of its places isn't there. `places` says where the users of the requirement went, and behind
-/// them a new administrator.
+/// do, or where one of its places isn't there, the administrator's among them. `places` says where the users of the
+/// requirement went, and behind them a new administrator.
 pub fn pre(
     alloc: Global,
     prepared: &Prepared,
     req: &Req,
     ob: &Obligation,
 ) -> Result<Option<Normal>, NoMemory>
-    ensures form { IfOk result (λ normal. form_in normal ≡ pre_form prepared.now req.now (owed_of ob.now)) }
+    ensures form { HasAdmin (length req.now) (owed_of ob.now) → IfOk result (λ normal. form_in normal ≡ pre_form prepared.now req.now (owed_of ob.now)) }
     ensures places { IfOk result (λ normal. IfSome normal (ArePrePlaces prepared.now req.now (owed_of ob.now))) }
+    ensures absent { ¬ HasAdmin (length req.now) (owed_of ob.now) → IfOk result (λ normal. IsNone normal) }
 {
+    if !has_admin(ob, req.users().len()) {
+        return Ok(None);
+    }
     match *ob {
         Obligation::Assign {
             rule,

@@ -293,6 +293,15 @@ fn obligations_have_their_pre_images(rt: HostRuntime) -> Result<(), Fail> {
     ];
     let forms = goals(alloc, &prepared, &both)?;
     assert_eq!(&rt; owed_text(alloc, &prepared, &forms)?.as_str(), OWED_BY_TWO);
+    if let [Some(normal), ..] = forms.as_slice() {
+        let absent = Obligation::Weak {
+            rule: 0,
+            role: 0,
+            target: 0,
+            admin: Pick::Other(2),
+        };
+        assert!(&rt; pre(alloc, &prepared, &normal.req, &absent)?.is_none());
+    }
     let pairs = vec![in alloc; (1, 0), (1, 2)]?;
     let paired = prepared_of(&rt, alloc, Cond::Any, range(1, 2), pairs)?;
     assert_owed(&rt, alloc, &paired, &PAIRED)
