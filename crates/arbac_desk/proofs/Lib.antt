@@ -1,2 +1,3 @@
-pub mod TextLemmas
-pub mod ReplyLemmas
+pub mod CommandLemmas
+pub mod AnswerLemmas
+pub mod ReplayLemmas

@@ -1,5 +1,6 @@
-pub mod Texts
-pub mod Words
-pub mod Faults
+pub mod Statuses
+pub mod Commands
 pub mod Answers
-pub mod Replies
+pub mod ReplayTexts
+pub mod ReplayAnswers
+pub mod CommandAnswers

@@ -1,14 +1,13 @@
 //! The desk: one call does all that the program does.
 #![tactic(auto)]
 
+mod command;
 mod desk;
-mod faults;
+mod replay;
 mod reply;
 mod status;
 #[cfg(test)]
 mod tests;
-mod texts;
-mod words;
 
 pub use desk::arbac_desk;
 pub use status::Status;

@@ -1,5 +1,6 @@
 -- How many combinations of conjuncts a goal has, and where they are too many.
-use Rattle.std.proofs.Common.{ℕ, suc, ◌≡◌, ◌<◌, ◌≤◌, ◌+◌, ◌*◌, ◌^◌, ◌∙◌, Bool, true, false, List, [], ◌∷◌, length, map, drop, get_or, Some, None, refl, sym, ap, subst, arith, zero}
+use Rattle.std.proofs.Common.{ℕ, suc, ◌≡◌, ◌<◌, ◌≤◌, ◌+◌, ◌*◌, ◌^◌, ◌∙◌, Bool, true, false, List, [], ◌∷◌, length}
+use Rattle.std.proofs.Common.{map, drop, get_or, Some, None, refl, sym, ap, subst, arith, zero}
 use Rattle.std.specs.Prelude.{nat_lt}
 use Rattle.std.proofs.lemmas.Bool.Decides.{nat_tests}
 use Rattle.std.proofs.lemmas.List.{length-append, length-map}
@@ -25,7 +26,8 @@ combinations_fit n w cond few is terms =
     subst (λ (x : ℕ). n * x < 2 ^ 128) (sym is) (omega (wide, arith))
 
 -- with one condition more the combinations are not too many
-pub still_few : (n : ℕ) (cond : Term) (conds : List Term) → n * width cond ≤ MOST_CONJUNCTS → too_many_from n (cond ∷ conds) ≡ too_many_from (n * width cond) conds
+pub still_few : (n : ℕ) (cond : Term) (conds : List Term) → n * width cond ≤ MOST_CONJUNCTS
+    → too_many_from n (cond ∷ conds) ≡ too_many_from (n * width cond) conds
 still_few n cond conds few = let test : nat_lt MOST_CONJUNCTS (n * width cond) ≡ false = grind (arith, nat_tests) in rw test refl
 
 -- with one condition more they are too many
@@ -100,7 +102,8 @@ told_count n count (cond ∷ conds) told = by_test (nat_lt MOST_CONJUNCTS (n * w
     by_test true t again =
         let many : MOST_CONJUNCTS < n * width cond = grind (arith, nat_tests) in
         let same : n * width cond ≡ count = same_some (n * width cond) count (sym (many_here n cond conds many) ∙ told) in
-        let all : n * width cond ≤ n * goal_width (cond ∷ conds) = subst (λ (m : ℕ). n * width cond ≤ m) (one_on n cond conds) (grown (n * width cond) conds) in
+        let all : n * width cond ≤ n * goal_width (cond ∷ conds) = subst (λ (m : ℕ). n * width cond ≤ m) (one_on n cond conds)
+        (grown (n * width cond) conds) in
         (subst (λ (m : ℕ). MOST_CONJUNCTS < m) same many, subst (λ (m : ℕ). m ≤ n * goal_width (cond ∷ conds)) same all)
     by_test false t again =
         let within : n * width cond ≤ MOST_CONJUNCTS = grind (arith, nat_tests) in

@@ -1,5 +1,6 @@
 -- Lists of conjuncts that grow by one at a time.
-use Rattle.std.proofs.Common.{ℕ, ◌≡◌, ◌≤◌, ◌<◌, ◌+◌, ◌∙◌, List, [], ◌∷◌, ◌++◌, length, take, get_or, Some, refl, zero, suc, ap, sym, append_assoc, arith}
+use Rattle.std.proofs.Common.{ℕ, ◌≡◌, ◌≤◌, ◌<◌, ◌+◌, ◌∙◌, List, [], ◌∷◌, ◌++◌, length, take, get_or, Some, refl, zero}
+use Rattle.std.proofs.Common.{suc, ap, sym, append_assoc, arith}
 use Rattle.std.specs.List.{slice_get}
 use Rattle.std.proofs.lemmas.List.{append-nil, map_push}
 use Rattle.list_words.proofs.GetLemmas.{take_all, take_one_more}

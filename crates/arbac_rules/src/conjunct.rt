@@ -4,6 +4,7 @@ ghost use Rattle.std.specs.Prelude.{◌≡◌, ◌++◌, [], ◌∷◌, IfOk, On
 ghost use Rattle.arbac_laws.specs.Conjuncts.{join_needs, join_with, join_all};
 ghost use Rattle.arbac_laws.specs.Views.{need_of, needs_of};
 
+use crate::NoMemory;
 use arbac_policy::Conjunct;
 use role_order::RoleSet;
 use std::alloc::{AllocError, Global};
@@ -19,7 +20,7 @@ pub fn of_any(alloc: Global) -> Conjunct
 }
 
 /// The conjunct that wants a role of the set.
-pub fn of_has(alloc: Global, hit: RoleSet) -> Result<Conjunct, AllocError>
+pub fn of_has(alloc: Global, hit: RoleSet) -> Result<Conjunct, NoMemory>
     ensures { IfOk result (λ one. need_of one ≡ record { hits = hit ∷ []; lacks = [] }) }
 {
     let mut hits = Vec::new(alloc);
@@ -73,7 +74,7 @@ pub fn joined_lists(
     alloc: Global,
     lefts: &[Conjunct],
     rights: &[Conjunct],
-) -> Result<Vec<Conjunct>, AllocError>
+) -> Result<Vec<Conjunct>, NoMemory>
     ensures { IfOk result (λ all. needs_of all.items
         ≡ join_all (needs_of lefts.now) (needs_of rights.now)) }
 {
@@ -85,7 +86,7 @@ pub fn joined_lists(
 }
 
 /// The left ones, and behind them the right ones.
-pub fn added_lists(lefts: Vec<Conjunct>, rights: Vec<Conjunct>) -> Result<Vec<Conjunct>, AllocError>
+pub fn added_lists(lefts: Vec<Conjunct>, rights: Vec<Conjunct>) -> Result<Vec<Conjunct>, NoMemory>
     ensures { IfOk result (λ all. all.items ≡ lefts.items ++ rights.items) }
 {
     let mut all = lefts;
@@ -96,7 +97,7 @@ pub fn added_lists(lefts: Vec<Conjunct>, rights: Vec<Conjunct>) -> Result<Vec<Co
 }
 
 /// A list of one conjunct.
-pub fn list_of(alloc: Global, one: Conjunct) -> Result<Vec<Conjunct>, AllocError>
+pub fn list_of(alloc: Global, one: Conjunct) -> Result<Vec<Conjunct>, NoMemory>
     ensures { IfOk result (λ all. needs_of all.items ≡ need_of one ∷ []) }
 {
     let mut all = Vec::new(alloc);

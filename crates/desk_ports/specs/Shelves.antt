@@ -1,8 +1,15 @@
 -- What a shelf holds and tells.
-use Rattle.std.specs.Prelude.{ℕ, ◌≡◌, List, [], ◌∷◌, if◌then◌else◌, String, Vec, string_bytes}
+use Rattle.std.specs.Prelude.{ℕ, ◌≡◌, List, [], ◌∷◌, if◌then◌else◌, Option, String, Vec, string_bytes}
 use Rattle.std.specs.declared.alloc.Global.{Global}
 use Rattle.std.specs.Str.{bytes_eq}
 use Rattle.desk_ports.specs.Faults.{Plan}
+
+-- what a caller sees of a shelf: the text of each name, where the shelf tells it; the name that was last fetched in vain, by an
+-- answer `Failed`, empty before the first such; and how often the shelf failed, which as a `u64` stays at its last value
+pub record ShelfView : Type 0 where
+  pub told : List ℕ → Option (List ℕ)
+  pub missed : List ℕ
+  pub faults : ℕ
 
 -- the name of the last fetch that failed: that of this call where it failed, else the one before
 pub record Misses (old new name : List ℕ) (failed : Type 0) : Type 0 where

@@ -3,6 +3,12 @@ use Rattle.std.specs.Prelude.{ℕ, ◌≡◌, ◌<◌, List, length, take, Optio
 use Rattle.std.specs.Io.KnownBytes.{append_known, Appends}
 use Rattle.desk_ports.specs.Faults.{Plan}
 
+-- what a caller sees of a sink: the bytes that it took, where the sink tells them; and how often it failed, which as a `u64` stays
+-- at its last value
+pub record SinkView : Type 0 where
+  pub taken : Option (List ℕ)
+  pub faults : ℕ
+
 -- it took these bytes besides, and tells what it took just where it did before
 abbrev pub Took : Option (List ℕ) → Option (List ℕ) → List ℕ → Type 0
 Took old new bytes = new ≡ append_known old bytes

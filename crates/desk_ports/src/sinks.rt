@@ -1,7 +1,7 @@
 //! A sink: a place that takes bytes.
 ghost use Rattle.std.specs.Prelude.{ℕ, ◌≡◌, List, Option, IsErrOf, OnOk, OnErr};
 ghost use Rattle.desk_ports.specs.Faults.{HasCause};
-ghost use Rattle.desk_ports.specs.Sinks.{Took, TookFront};
+ghost use Rattle.desk_ports.specs.Sinks.{SinkView, Took, TookFront};
 ghost use Rattle.desk_ports.specs.declared.sinks.SinkError.TheVariants.{Memory};
 
 mod memory;
@@ -32,16 +32,13 @@ impl From<AllocError> for SinkError {
 
 /// A place that takes bytes, one after the other.
 pub trait Sink {
-    /// The bytes that it took, where the sink tells them. No call changes whether it does.
-    ghost taken: { Self → Option (List ℕ) };
-
-    /// How often the sink failed. As a `u64` it stays at its last value.
-    ghost faults: { Self → ℕ };
+    /// The bytes that it took, where it tells them (no call changes whether it does), and how often it failed.
+    ghost seen: { Self → SinkView };
 
     /// Takes all the bytes, or after an error a prefix of them.
     fn put(&mut self, bytes: &[u8]) -> Result<(), SinkError>
-        ensures all { OnOk result (Took (taken self.old) (taken self.new) bytes.now) }
-        ensures front { OnErr result (TookFront (taken self.old) (taken self.new) bytes.now) }
-        ensures cause { HasCause (faults self.old) (faults self.new)
+        ensures all { OnOk result (Took (seen self.old).taken (seen self.new).taken bytes.now) }
+        ensures front { OnErr result (TookFront (seen self.old).taken (seen self.new).taken bytes.now) }
+        ensures cause { HasCause (seen self.old).faults (seen self.new).faults
             (IsErrOf result SinkError.Failed) };
 }

@@ -1,5 +1,6 @@
 -- A matching that agrees up to an item gives that item no closed place.
-use Rattle.std.proofs.Common.{ℕ, ◌≡◌, ◌<◌, ◌≤◌, ◌+◌, List, [], ◌∷◌, length, get_or, arith, zero, suc, sym, ◌∙◌, ap, refl, subst, Bool, true, false, cond, Option, Some, None, count_by, sum_by, unwrap_or, inl, inr}
+use Rattle.std.proofs.Common.{ℕ, ◌≡◌, ◌<◌, ◌≤◌, ◌+◌, List, [], ◌∷◌, length, get_or, arith, zero, suc, sym, ◌∙◌, ap, refl}
+use Rattle.std.proofs.Common.{subst, Bool, true, false, cond, Option, Some, None, count_by, sum_by, unwrap_or, inl, inr}
 use Rattle.std.specs.Prelude.{◌⊎◌, Contains}
 use Rattle.std.specs.List.{list_any}
 use Rattle.std.proofs.lemmas.Bool.{cases_order, false≢true}

@@ -1,5 +1,6 @@
 -- Least places of items, and the least transversal.
-use Rattle.std.proofs.Common.{ℕ, ◌≡◌, ◌<◌, ◌≤◌, ◌∙◌, List, [], ◌∷◌, length, get_or, take, refl, arith, suc, sym, subst, ap, inl, inr}
+use Rattle.std.proofs.Common.{ℕ, ◌≡◌, ◌<◌, ◌≤◌, ◌∙◌, List, [], ◌∷◌, length, get_or, take, refl, arith, suc, sym, subst, ap, inl}
+use Rattle.std.proofs.Common.{inr}
 use Rattle.std.specs.Prelude.{◌⊎◌}
 use Rattle.list_words.proofs.NumberLemmas.{compare}
 use Rattle.hall_match.specs.Matchings.{IsBefore}
@@ -12,7 +13,8 @@ least_by_places : (list other : List ℕ) → length other ≡ length list → (
 least_by_places [] [] long below = inl refl
 least_by_places [] (y ∷ ys) long below = absurd (omega (arith, long))
 least_by_places (x ∷ xs) [] long below = absurd (omega (arith, long))
-least_by_places (x ∷ xs) (y ∷ ys) long below = by_first (compare x y) (least_by_places xs ys (omega (arith, long)) (λ i l. below (suc i) (omega (arith, l))))
+least_by_places (x ∷ xs) (y ∷ ys) long below =
+    by_first (compare x y) (least_by_places xs ys (omega (arith, long)) (λ i l. below (suc i) (omega (arith, l))))
   where
     by_first : (x < y) ⊎ ((x ≡ y) ⊎ (y < x)) → (ys ≡ xs) ⊎ IsBefore xs ys → (y ∷ ys ≡ x ∷ xs) ⊎ IsBefore (x ∷ xs) (y ∷ ys)
     by_first (inl l) rest = inr (record { item = 0; inside = omega arith; same = refl; less = l })

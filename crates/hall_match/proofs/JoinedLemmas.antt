@@ -1,5 +1,6 @@
 -- Matchings of the pairs that go together, and transversals.
-use Rattle.std.proofs.Common.{ℕ, ◌≡◌, ◌<◌, ◌+◌, List, length, get_or, sym, subst, inl, inr, Option, Some, None}
+use Rattle.std.proofs.Common.{ℕ, ◌≡◌, ◌<◌, ◌+◌, List, [], ◌∷◌, length, get_or, refl, arith, zero, suc, sym, subst, inl, inr, Option}
+use Rattle.std.proofs.Common.{Some, None}
 use Rattle.std.specs.Prelude.{◌⊎◌, ◌↔◌, Contains, slice_get, replicate, IfNone}
 use Rattle.std.proofs.lemmas.List.{length-replicate, get_or_default}
 use Rattle.list_words.specs.Embeds.{Embeds}
@@ -20,15 +21,18 @@ GoesBelow Joins places k u = (u < places) × Joins k u
 
 -- the pairs of the items so far, with those of the next one
 pub row_more : (Joins : ℕ → ℕ → Type 0) (places : ℕ) (old new : List (ℕ × ℕ)) (at : ℕ) → HaveItems old at (GoesBelow Joins places)
-    → ((k u : ℕ) → Contains new (k, u) ↔ (Contains old (k, u) ⊎ ((k ≡ at) × (u < places) × Joins at u))) → HaveItems new (at + 1) (GoesBelow Joins places)
+    → ((k u : ℕ) → Contains new (k, u) ↔ (Contains old (k, u) ⊎ ((k ≡ at) × (u < places) × Joins at u)))
+    → HaveItems new (at + 1) (GoesBelow Joins places)
 row_more Joins places old new at before step =
     item_more old new at (GoesBelow Joins places) before (λ k u. (λ h. to k u ((step k u).0 h), λ h. (step k u).1 (from k u h)))
   where
-    to : (k u : ℕ) → Contains old (k, u) ⊎ ((k ≡ at) × (u < places) × Joins at u) → Contains old (k, u) ⊎ ((k ≡ at) × GoesBelow Joins places at u)
+    to : (k u : ℕ) → Contains old (k, u) ⊎ ((k ≡ at) × (u < places) × Joins at u) → Contains old (k, u)
+        ⊎ ((k ≡ at) × GoesBelow Joins places at u)
     to k u (inl c) = inl c
     to k u (inr h) = inr (h.0, (h.1, h.2))
 
-    from : (k u : ℕ) → Contains old (k, u) ⊎ ((k ≡ at) × GoesBelow Joins places at u) → Contains old (k, u) ⊎ ((k ≡ at) × (u < places) × Joins at u)
+    from : (k u : ℕ) → Contains old (k, u) ⊎ ((k ≡ at) × GoesBelow Joins places at u) → Contains old (k, u)
+        ⊎ ((k ≡ at) × (u < places) × Joins at u)
     from k u (inl c) = inl c
     from k u (inr h) = inr (h.0, h.1.0, h.1.1)
 
@@ -38,7 +42,8 @@ pub rows_whole : (Joins : ℕ → ℕ → Type 0) (places : ℕ) (pairs : List (
 rows_whole Joins places pairs items have k u = (λ c. let h = (have k u).0 c in (h.0, h.1.0, h.1.1), λ h. (have k u).1 (h.0, (h.1, h.2)))
 
 -- joined pairs are pairs of a matching problem
-pub joined_within : (Joins : ℕ → ℕ → Type 0) (left : ℕ) (capacities : List (Option ℕ)) (pairs : List (ℕ × ℕ)) → AreJoined Joins left (length capacities) pairs
+pub joined_within : (Joins : ℕ → ℕ → Type 0) (left : ℕ) (capacities : List (Option ℕ)) (pairs : List (ℕ × ℕ))
+    → AreJoined Joins left (length capacities) pairs
     → ArePairsWithin left capacities pairs
 joined_within Joins left capacities pairs are k d l =
     let pair : ℕ × ℕ = get_or pairs k d in
@@ -115,7 +120,9 @@ pub none_embeds : {A B : Type 0} (R : A → B → Type 0) (xs : List A) (ys : Li
 none_embeds R xs ys none f = let places = to_places R xs ys f in none places.0 (places_transversal R xs ys places.0 places.1)
 
 -- what is known of a list of the pairs below these numbers
-pub of_pairs : (Joins : ℕ → ℕ → Type 0) (items places left count : ℕ) (pairs : List (ℕ × ℕ)) (P : ℕ → List (ℕ × ℕ) → Type 0) → items ≡ left → places ≡ count
+pub of_pairs : (Joins : ℕ → ℕ → Type 0) (items places left count : ℕ) (pairs : List (ℕ × ℕ)) (P : ℕ → List (ℕ × ℕ) → Type 0)
+    → items ≡ left
+    → places ≡ count
     → AreJoined Joins items places pairs → P items pairs → OfPairs Joins left count (P left)
 of_pairs Joins items places left count pairs P here there are holds = (
   pairs,
@@ -129,7 +136,8 @@ matched_of (Matched list) P Q follows p = follows list.items p
 matched_of (Deficient items) P Q follows p = p
 
 -- what follows from what holds of the deficient set
-pub deficient_of : (answer : Matching) (P Q : List ℕ → Type 0) → ((items : List ℕ) → P items → Q items) → IfDeficient answer P → IfDeficient answer Q
+pub deficient_of : (answer : Matching) (P Q : List ℕ → Type 0) → ((items : List ℕ) → P items → Q items) → IfDeficient answer P
+    → IfDeficient answer Q
 deficient_of (Matched list) P Q follows p = p
 deficient_of (Deficient items) P Q follows p = follows items.items p
 

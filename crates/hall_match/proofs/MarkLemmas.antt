@@ -1,5 +1,6 @@
 -- The seen places as a list, and what their capacities are against the items that are given them.
-use Rattle.std.proofs.Common.{ℕ, ◌≡◌, ◌<◌, ◌≤◌, ◌+◌, List, [], ◌∷◌, length, get_or, arith, zero, suc, sym, ap, refl, subst, Bool, true, false, cond, eqb, Option, Some, None, count_by, unwrap_or, inl, inr}
+use Rattle.std.proofs.Common.{ℕ, ◌≡◌, ◌<◌, ◌≤◌, ◌+◌, List, [], ◌∷◌, length, get_or, arith, zero, suc, sym, ap, refl, subst, Bool}
+use Rattle.std.proofs.Common.{true, false, cond, eqb, Option, Some, None, count_by, unwrap_or, inl, inr}
 use Rattle.std.specs.Prelude.{◌⊎◌, Contains}
 use Rattle.std.specs.List.{list_any}
 use Rattle.std.specs.List.Sorted.{IsStrictlyIncreasing}

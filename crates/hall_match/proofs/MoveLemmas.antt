@@ -1,5 +1,6 @@
 -- Items that are moved along an augmenting path, from its end to where it begins.
-use Rattle.std.proofs.Common.{ℕ, ◌≡◌, ◌<◌, ◌≤◌, ◌+◌, List, length, set, arith, sym, ◌∙◌, ap, refl, subst, true, Option, Some, None, inl, inr}
+use Rattle.std.proofs.Common.{ℕ, ◌≡◌, ◌<◌, ◌≤◌, ◌+◌, List, length, set, arith, sym, ◌∙◌, ap, refl, subst, true, Option, Some}
+use Rattle.std.proofs.Common.{None, inl, inr}
 use Rattle.std.specs.Prelude.{◌⊎◌, slice_get, Contains}
 use Rattle.std.proofs.lemmas.Bool.{cases_eq, ltb-true, lt-ltb}
 use Rattle.std.proofs.lemmas.Option.{slice_get_within}

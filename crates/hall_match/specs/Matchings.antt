@@ -1,5 +1,6 @@
 -- Matchings with capacities: items are given neighbouring places, none more often than its capacity.
-use Rattle.std.specs.Prelude.{ℕ, ◌≡◌, ◌<◌, ◌≤◌, ◌↔◌, ◌==◌, ◌⊎◌, List, length, take, slice_index, slice_index_or, Option, Some, None, unwrap_or, count_by, sum_by, Contains, All}
+use Rattle.std.specs.Prelude.{ℕ, ◌≡◌, ◌<◌, ◌≤◌, ◌↔◌, ◌==◌, ◌⊎◌, List, length, take, slice_index, slice_index_or, Option}
+use Rattle.std.specs.Prelude.{Some, None, unwrap_or, count_by, sum_by, Contains, All}
 use Rattle.std.specs.List.Sorted.{IsStrictlyIncreasing}
 
 -- each edge leads from an item below the number to a place that has a capacity

@@ -3,6 +3,7 @@
 ghost use Rattle.std.specs.Prelude.{ℕ, ◌≡◌, ◌<◌, ◌⊎◌, ◌↔◌, Contains, IsTrue, OnOk, IfOk};
 ghost use Rattle.hall_match.specs.Joined.{AreJoined};
 
+use crate::NoMemory;
 use std::alloc::{AllocError, Global};
 
 /// What tells whether an item goes with a place.
@@ -38,7 +39,7 @@ pub fn pairs_where<E: Edges>(
     edges: &E,
     items: u32,
     places: u32,
-) -> Result<Vec<(u32, u32)>, AllocError>
+) -> Result<Vec<(u32, u32)>, NoMemory>
     ensures { IfOk result (λ pairs. AreJoined (E.joins edges.now) items places pairs.items) }
 {
     let mut pairs = Vec::new(alloc);

@@ -3,8 +3,9 @@
 ghost use Rattle.std.specs.Prelude.{ℕ, ◌≡◌, ◌<◌, length, slice_index, IsTrue, IfOk, IfSome, IfNone};
 ghost use Rattle.hall_match.specs.Firsts.{IsFirstPlace, AreFirstPlaces, HasNoPlace};
 
+use crate::NoMemory;
 use crate::edges::Edges;
-use std::alloc::{AllocError, Global};
+use std::alloc::Global;
 
 /// The least place with which the item goes.
 fn first_place<E: Edges>(edges: &E, item: u32, places: u32) -> Option<u32>
@@ -25,7 +26,7 @@ pub fn first_places<E: Edges>(
     edges: &E,
     items: u32,
     places: u32,
-) -> Result<Option<Vec<u32>>, AllocError>
+) -> Result<Option<Vec<u32>>, NoMemory>
     ensures found { IfOk result (λ found. IfSome found (λ list. AreFirstPlaces (E.joins edges.now) places items list.items)) }
     ensures none { IfOk result (λ found. IfNone found ((item : ℕ) × (item < items) × HasNoPlace (E.joins edges.now) places item)) }
 {

@@ -5,13 +5,14 @@ ghost use Rattle.hall_match.specs.Joined.{OfPairs, IsTransversal, IsLeastTransve
 ghost use Rattle.hall_match.specs.Matchings.{IsMatching, IsLeast, IsDeficient};
 ghost use Rattle.hall_match.specs.Outcome.{IfMatched, IfDeficient};
 
+use crate::NoMemory;
 use crate::edges::{Edges, pairs_where};
 use crate::firsts::{are_different, first_places};
 use crate::outcome::{Matching, match_all};
 use std::alloc::{AllocError, Global};
 
 /// The count as a number of 32 bits. The error is that it has more.
-pub fn small(count: usize) -> Result<u32, AllocError>
+pub fn small(count: usize) -> Result<u32, NoMemory>
     ensures { IfOk result (λ number. number ≡ count) }
 {
     if count > u32::MAX as usize {
@@ -27,7 +28,7 @@ pub fn match_by<E: Edges>(
     left: usize,
     capacities: &[Option<u32>],
     edges: &E,
-) -> Result<Matching, AllocError>
+) -> Result<Matching, NoMemory>
     ensures matched { IfOk result (λ answer. IfMatched answer (λ list.
         OfPairs (E.joins edges.now) left (length capacities.now) (λ pairs. IsLeast left capacities.now pairs list))) }
     ensures deficient { IfOk result (λ answer. IfDeficient answer (λ items.
@@ -74,7 +75,7 @@ pub fn least_transversal<E: Edges>(
     left: usize,
     places: usize,
     edges: &E,
-) -> Result<Option<Vec<u32>>, AllocError>
+) -> Result<Option<Vec<u32>>, NoMemory>
     ensures least { IfOk result (λ found. IfSome found (λ list. IsLeastTransversal (E.joins edges.now) left places list.items)) }
     ensures none { IfOk result (λ found. IfNone found ((list : List ℕ) → ¬ IsTransversal (E.joins edges.now) left places list)) }
 {

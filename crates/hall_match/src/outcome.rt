@@ -7,6 +7,7 @@ ghost use Rattle.hall_match.specs.Rows.{lists, HaveEdges, AreInside, RowsRise};
 ghost use Rattle.hall_match.specs.Settling.{IsGiven, IsUpTo};
 ghost use Rattle.hall_match.specs.Outcome.{IfMatched, IfDeficient};
 
+use crate::NoMemory;
 use crate::deficiency::blocked_items;
 use crate::partial_matching::PartialMatching;
 use crate::rows::rows_of;
@@ -109,7 +110,7 @@ pub fn match_all(
     left: u32,
     capacities: &[Option<u32>],
     edges: &[(u32, u32)],
-) -> Result<Matching, AllocError>
+) -> Result<Matching, NoMemory>
     requires { ArePairsWithin left capacities.now edges.now }
     ensures matched { IfOk result (λ answer. IfMatched answer (IsLeast left capacities.now edges.now)) }
     ensures deficient { IfOk result (λ answer.

@@ -4,7 +4,8 @@ ghost use Rattle.std.specs.Prelude.{ℕ, ◌≡◌, ◌<◌, ◌^◌, length, sl
 ghost use Rattle.std.specs.Prelude.{replicate};
 ghost use Rattle.hall_match.specs.Holding.{given_at, holder_count, has_room};
 
-use std::alloc::{AllocError, Global};
+use crate::NoMemory;
+use std::alloc::Global;
 
 /// The place that each item is given, and how many items each place is given to.
 #[derive(Drop)]
@@ -20,7 +21,7 @@ pub struct PartialMatching {
 
 impl PartialMatching {
     /// No item is given a place yet.
-    pub fn new(alloc: Global, left: u32, places: usize) -> Result<Self, AllocError>
+    pub fn new(alloc: Global, left: u32, places: usize) -> Result<Self, NoMemory>
         ensures given { IfOk result (λ held. held.given.items ≡ replicate left None) }
         ensures places { IfOk result (λ held. length held.used.items ≡ places) }
     {

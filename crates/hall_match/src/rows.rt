@@ -3,10 +3,11 @@
 ghost use Rattle.std.specs.Prelude.{◌≡◌, ◌<◌, [], length, All, IfOk};
 ghost use Rattle.hall_match.specs.Rows.{lists, row_at, HaveEdges, HaveSame, RowsRise};
 
+use crate::NoMemory;
 use std::alloc::{AllocError, Global};
 
 /// For each item its row: the places to which it has an edge, rising.
-pub fn rows_of(alloc: Global, left: u32, edges: &[(u32, u32)]) -> Result<Vec<Vec<u32>>, AllocError>
+pub fn rows_of(alloc: Global, left: u32, edges: &[(u32, u32)]) -> Result<Vec<Vec<u32>>, NoMemory>
     requires { All (λ edge. edge.0 < left) edges.now }
     ensures whole { IfOk result (λ rows. length rows.items ≡ left) }
     ensures edges { IfOk result (λ rows. HaveEdges (lists rows.items) edges.now) }

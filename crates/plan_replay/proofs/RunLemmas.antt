@@ -30,7 +30,8 @@ kind_step_one Strong holder rules users old admin target role new other a b =
     weak_steps_one holder rules users old admin target (falling holder rules.order b.set role) new other
     (subst (λ s. WeakSteps holder rules users old admin target (falling holder rules.order s role) new) same a.steps) b.steps
 
-pub step_one : (rules : Rules) (old : List (List ℕ)) (act : Act) (new other : List (List ℕ)) → Step rules old act new → Step rules old act other → new ≡ other
+pub step_one : (rules : Rules) (old : List (List ℕ)) (act : Act) (new other : List (List ℕ)) → Step rules old act new → Step rules old act other
+    → new ≡ other
 step_one rules old act new other a b = kind_step_one act.kind user rules old old act.admin act.target act.role new other a b
 
 run_more : (rules : Rules) (old mid new : List (List ℕ)) (acts : List Act) (act : Act) → Run rules old acts mid → Step rules mid act new

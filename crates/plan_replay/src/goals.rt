@@ -7,10 +7,11 @@ ghost use Rattle.arbac_policy.specs.Goals.{GoalMet};
 ghost use Rattle.hall_match.specs.Joined.{JoinsAt};
 ghost use Rattle.plan_replay.specs.GoalLists.{AreLeast, AreKnown, AreKnown-prop};
 
+use crate::NoMemory;
 use arbac_policy::{Cond, Policy, holds};
 use hall_match::{Edges, least_transversal};
 use role_order::{Order, RoleSet};
-use std::alloc::{AllocError, Global};
+use std::alloc::Global;
 
 /// Conditions, and users who may meet them.
 #[derive(Drop)]
@@ -42,7 +43,7 @@ pub fn goal_met(
     policy: &Policy,
     population: &[RoleSet],
     goal: &[Cond],
-) -> Result<Option<Vec<u32>>, AllocError>
+) -> Result<Option<Vec<u32>>, NoMemory>
     requires known { Each (λ cond. IsKnown (length policy.now.order.names) (term_of cond)) goal.now }
     requires users { length population.now < 2 ^ 32 }
     requires conditions { length goal.now < 2 ^ 32 }

@@ -1,6 +1,7 @@
 -- The normal form of a requirement, user by user.
-use Rattle.std.proofs.Common.{ℕ, ◌≡◌, ◌<◌, ◌∙◌, Bool, true, false, cond, List, [], ◌∷◌, ◌++◌, length, map, get_or, Some, zero, suc, refl, ap, sym, subst, arith, take, drop}
-use Rattle.std.specs.Prelude.{slice_get, None}
+use Rattle.std.proofs.Common.{ℕ, ◌≡◌, ◌<◌, ◌≤◌, ◌∙◌, Bool, true, false, cond, List, [], ◌∷◌, ◌++◌, length, map, get_or}
+use Rattle.std.proofs.Common.{Some, zero, suc, refl, ap, sym, subst, arith, take, drop}
+use Rattle.std.specs.Prelude.{slice_get, insert, None}
 use Rattle.std.specs.List.{list_any}
 use Rattle.std.proofs.lemmas.Bool.Decides.{nat_tests}
 use Rattle.list_words.specs.Lists.{Each}
@@ -47,7 +48,8 @@ moved_pushed (suc at) (suc p) = let rest = moved_pushed at p in grind (arith, na
 all_moved : (at : ℕ) (to : ℕ → ℕ) (n : ℕ) → map (moved at) (told to n) ≡ told (λ i. pushed at (to i)) n
 all_moved at to zero = refl
 all_moved at to (suc n) =
-    ap (λ p. p ∷ map (moved at) (told (λ i. to (suc i)) n)) (moved_pushed at (to 0)) ∙ ap (λ t. pushed at (to 0) ∷ t) (all_moved at (λ i. to (suc i)) n)
+    ap (λ p. p ∷ map (moved at) (told (λ i. to (suc i)) n)) (moved_pushed at (to 0))
+    ∙ ap (λ t. pushed at (to 0) ∷ t) (all_moved at (λ i. to (suc i)) n)
 
 -- each user has a place among the others
 pub places_below : (needs form : List Need) (places : List ℕ) → AreFormPlaces needs form places → Each (λ place. place < length form) places

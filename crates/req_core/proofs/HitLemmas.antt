@@ -1,5 +1,6 @@
 -- The normal form of one user requirement, hit by hit.
-use Rattle.std.proofs.Common.{ℕ, ◌≡◌, ◌∙◌, Bool, true, false, not, cond, List, [], ◌∷◌, map, Some, zero, suc, refl, ap, sym, subst, arith, take, drop}
+use Rattle.std.proofs.Common.{ℕ, ◌≡◌, ◌<◌, ◌≤◌, ◌∙◌, Bool, true, false, not, cond, List, [], ◌∷◌, length, map, Some, zero, suc}
+use Rattle.std.proofs.Common.{refl, ap, sym, subst, arith, take, drop}
 use Rattle.std.specs.Prelude.{◌||◌, None, slice_get, insert, filter}
 use Rattle.std.specs.List.{list_any}
 use Rattle.list_words.specs.Lists.{Each}
@@ -26,7 +27,8 @@ pub record AreBare (need : Need) (i : ℕ) (hits : List (List ℕ)) : Type 0 whe
   pub rise : Each Rises (take i need.hits)
 
 -- what passes at a place, passes in the mapped list
-pub any_map : {A B : Type 0} (p : B → Bool) (f : A → B) (xs : List A) (i : ℕ) (x : A) → slice_get xs i ≡ Some x → p (f x) ≡ true → list_any p (map f xs) ≡ true
+pub any_map : {A B : Type 0} (p : B → Bool) (f : A → B) (xs : List A) (i : ℕ) (x : A) → slice_get xs i ≡ Some x → p (f x) ≡ true
+    → list_any p (map f xs) ≡ true
 any_map p f [] i x e h = cc
 any_map p f (y ∷ ys) zero x e h = let same : y ≡ x = cc in rw (same, h) refl
 any_map p f (y ∷ ys) (suc i) x e h = rw (any_map p f ys i x e h) (by_test (p (f y)))
@@ -82,7 +84,8 @@ drop_here (y ∷ ys) (suc i) x e = drop_here ys i x e
 
 -- one hit more, from the last one on, is put in unless it is bad
 pub sorted_step : {A : Type 0} (before : A → A → Bool) (bad : A → Bool) (xs : List A) (i j : ℕ) (x : A) → j ≡ suc i → slice_get xs i ≡ Some x
-    → cond (bad x) (sort_once before (filter (λ y. not (bad y)) (drop j xs))) (insert_once before x (sort_once before (filter (λ y. not (bad y)) (drop j xs))))
+    → cond (bad x) (sort_once before (filter (λ y. not (bad y)) (drop j xs)))
+    (insert_once before x (sort_once before (filter (λ y. not (bad y)) (drop j xs))))
     ≡ sort_once before (filter (λ y. not (bad y)) (drop i xs))
 sorted_step {A} before bad xs i j x next e = rw (next, drop_here xs i x e) (by_test (bad x))
   where

@@ -4,4 +4,3 @@ pub mod CoverLemmas
 pub mod FormLemmas
 pub mod HitLemmas
 pub mod MeetLemmas
-pub mod ServeLemmas

@@ -7,10 +7,11 @@ ghost use Rattle.arbac_laws.specs.Needs.{CoversNeed, Covers};
 ghost use Rattle.list_words.specs.Places.{ArePlaces};
 ghost use Rattle.hall_match.specs.Joined.{JoinsAt};
 
+use crate::NoMemory;
 use crate::req::{Req, UserReq};
 use hall_match::{Edges, least_transversal};
 use role_order::RoleSet;
-use std::alloc::{AllocError, Global};
+use std::alloc::Global;
 
 /// Whether one of the hits, less the lacks, lies within the hit.
 fn has_within(hits: &[RoleSet], lacks: &RoleSet, hit: &RoleSet) -> bool
@@ -57,7 +58,7 @@ impl<'a> Edges for Covering<'a> {
 /// The places of users of the second requirement, a different one for each user of the first, whom the first
 /// ones cover; none exactly where the first requirement doesn't cover the second. The error is want of memory, or
 /// more users than 32 bits count.
-pub fn covers(alloc: Global, a: &Req, b: &Req) -> Result<Option<Vec<u32>>, AllocError>
+pub fn covers(alloc: Global, a: &Req, b: &Req) -> Result<Option<Vec<u32>>, NoMemory>
     ensures map { IfOk result (λ found. IfSome found (λ places. ArePlaces CoversNeed a.now b.now places.items)) }
     ensures none { IfOk result (λ found. IfNone found (¬ Covers a.now b.now)) }
 {

@@ -1,6 +1,7 @@
 //! The normal form of a requirement.
 
-ghost use Rattle.std.specs.Prelude.{ℕ, ◌≡◌, ◌<◌, ◌≤◌, ◌+◌, ◌^◌, true, false, List, ◌∷◌, length, map, slice_get, Some, IfOk, IfSome, OnOk};
+ghost use Rattle.std.specs.Prelude.{ℕ, ◌≡◌, ◌<◌, ◌≤◌, ◌+◌, ◌^◌, true, false, List, ◌∷◌, length, map, slice_get, Some, IfOk};
+ghost use Rattle.std.specs.Prelude.{IfSome, OnOk};
 ghost use Rattle.list_words.specs.Lists.{Each};
 ghost use Rattle.arbac_laws.specs.Needs.{Need};
 ghost use Rattle.arbac_laws.specs.Orders.{need_before};
@@ -9,11 +10,11 @@ ghost use Rattle.req_core.specs.Answers.{form_in};
 ghost use Rattle.req_core.specs.Forms.{moved, IsPlaced};
 ghost use Rattle.arbac_laws.specs.Views.{needs_of};
 
-use crate::RawUser;
 use crate::answers::Normal;
 use crate::hits::normal_user;
 use crate::req::{Req, UserReq};
 use crate::sorted::place_of;
+use crate::{NoMemory, RawUser};
 use std::alloc::{AllocError, Global};
 
 /// One place further, from this place on.
@@ -77,7 +78,7 @@ fn form_of(alloc: Global, raw: &[RawUser]) -> Result<Option<Normal>, AllocError>
 
 /// The normal form of the requirement; none exactly where it is impossible. The error is want of memory, or
 /// more users than 32 bits count.
-pub fn normal(alloc: Global, raw: &[RawUser]) -> Result<Option<Normal>, AllocError>
+pub fn normal(alloc: Global, raw: &[RawUser]) -> Result<Option<Normal>, NoMemory>
     ensures form { IfOk result (λ normal. form_in normal ≡ normal_form (needs_of raw.now)) }
     ensures places { IfOk result (λ normal. IfSome normal (λ n. AreFormPlaces (needs_of raw.now) n.req n.places.items)) }
 {

@@ -5,10 +5,11 @@ ghost use Rattle.arbac_policy.specs.Goals.{AreUsers};
 ghost use Rattle.arbac_laws.specs.Needs.{MeetsNeed, MeetsBy};
 ghost use Rattle.arbac_laws.specs.Closed.{IsUnmet};
 ghost use Rattle.hall_match.specs.Joined.{JoinsAt};
-ghost use Rattle.req_core.specs.Serving as serving;
-ghost use Rattle.req_core.specs.Serving.{ServesLeast, AreUnserved};
+ghost use Rattle.arbac_laws.specs.Serving as serving;
+ghost use Rattle.arbac_laws.specs.Serving.{ServesLeast, AreUnserved};
 ghost use Rattle.req_core.specs.Answers.{IfChoice, IfApart};
 
+use crate::NoMemory;
 use crate::answers::Met;
 use crate::req::{Req, UserReq, meets};
 use arbac_policy::Profile;
@@ -49,7 +50,7 @@ fn counts_of(alloc: Global, profiles: &[Profile]) -> Result<Vec<Option<u32>>, Al
 
 /// Whether users that can be drawn from the profiles meet the requirement. The error is want of memory, or
 /// more users or profiles than 32 bits count.
-pub fn met(alloc: Global, req: &Req, profiles: &[Profile]) -> Result<Met, AllocError>
+pub fn met(alloc: Global, req: &Req, profiles: &[Profile]) -> Result<Met, NoMemory>
     // The choice serves the requirement, and is the least that does.
     ensures choice { IfOk result (λ met. IfChoice met (ServesLeast profiles.now req.now)) }
     // Its users meet the requirement in order.

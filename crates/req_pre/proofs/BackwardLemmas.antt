@@ -15,7 +15,8 @@ any_alone role (hit ∷ hits) = ap (λ b. is_empty (without_role hit role) || b)
 pub weak_none : (role : ℕ) (need : Need) → list_any (λ hit. is_empty (without_role hit role)) need.hits ≡ true → None ≡ before_weak role need
 weak_none role need h = let alone : has_alone role need.hits ≡ true = sym (any_alone role need.hits) ∙ h in rw alone refl
 
-pub weak_some : (role : ℕ) (need : Need) (hits : List (List ℕ)) (lacks : List ℕ) → list_any (λ hit. is_empty (without_role hit role)) need.hits ≡ false
+pub weak_some : (role : ℕ) (need : Need) (hits : List (List ℕ)) (lacks : List ℕ)
+    → list_any (λ hit. is_empty (without_role hit role)) need.hits ≡ false
     → hits ≡ map (λ hit. without_role hit role) need.hits → lacks ≡ without_role need.lacks role
     → Some (record { hits = hits; lacks = lacks }) ≡ before_weak role need
 weak_some role need hits lacks h is less =

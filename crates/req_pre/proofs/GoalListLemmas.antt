@@ -1,5 +1,6 @@
 -- Combinations of conjuncts, and the lists that loops build of them.
-use Rattle.std.proofs.Common.{ℕ, ◌≡◌, ◌<◌, ◌+◌, ◌∙◌, List, [], ◌∷◌, ◌++◌, length, map, take, get_or, Option, Some, append_assoc, sym, ap, subst, inl, inr}
+use Rattle.std.proofs.Common.{ℕ, ◌≡◌, ◌<◌, ◌+◌, ◌∙◌, List, [], ◌∷◌, ◌++◌, length, map, take, get_or, Option, Some}
+use Rattle.std.proofs.Common.{append_assoc, sym, ap, subst, inl, inr}
 use Rattle.std.specs.Prelude.{slice_get, IfSome, ◌⊎◌}
 use Rattle.std.proofs.lemmas.List.{append-nil, map_push}
 use Rattle.list_words.proofs.GetLemmas.{get_at, get_last_cases, take_one_more}
@@ -25,7 +26,8 @@ seen_more view old list xs new i x y before at grown same =
     ∙ append_assoc old (take i list) (y ∷ [])
     ∙ ap (λ (l : _). old ++ l) (sym (take_one_more list i y at))
 
-before_push : (xs : List Need) (a : Need) (tails : List (List Need)) → before_each (xs ++ a ∷ []) tails ≡ before_each xs tails ++ map (λ tail. a ∷ tail) tails
+before_push : (xs : List Need) (a : Need) (tails : List (List Need)) → before_each (xs ++ a ∷ []) tails ≡ before_each xs tails ++ map
+    (λ tail. a ∷ tail) tails
 before_push [] a tails = append-nil (map (λ tail. a ∷ tail) tails)
 before_push (x ∷ xs) a tails =
     ap (λ l. map (λ tail. x ∷ tail) tails ++ l) (before_push xs a tails)
@@ -52,4 +54,5 @@ placed_more goals forms new i needs form before long at placed grown number othe
     by_side (inr here) =
         let there : slice_get goals number ≡ Some needs = subst (λ k. slice_get goals k ≡ Some needs) (sym (here.0 ∙ long)) at in
         let same : needs ≡ others = cc in
-        subst (λ l. AreFormPlaces l normal.req normal.places.items) same (subst (λ f. IfSome f (λ n. AreFormPlaces needs n.req n.places.items)) here.1 placed)
+        subst (λ l. AreFormPlaces l normal.req normal.places.items) same
+        (subst (λ f. IfSome f (λ n. AreFormPlaces needs n.req n.places.items)) here.1 placed)

@@ -1,5 +1,6 @@
 -- The lists of obligations that the loops build are those of the laws.
-use Rattle.std.proofs.Common.{ℕ, ◌≡◌, ◌≤◌, ◌<◌, ◌+◌, ◌-◌, ◌∙◌, Bool, true, false, not, List, [], ◌∷◌, ◌++◌, length, map, drop, Some, refl, zero, suc, ap, sym, append_assoc, arith, eqb}
+use Rattle.std.proofs.Common.{ℕ, ◌≡◌, ◌≤◌, ◌<◌, ◌+◌, ◌-◌, ◌∙◌, Bool, true, false, not, List, [], ◌∷◌, ◌++◌, length}
+use Rattle.std.proofs.Common.{map, drop, Some, refl, zero, suc, ap, sym, append_assoc, arith, eqb}
 use Rattle.std.specs.Prelude.{slice_get, filter, ◌↔◌}
 use Rattle.std.proofs.lemmas.List.{append-nil, drop_more, drop_all}
 use Rattle.list_words.proofs.GetLemmas.{get_within}
@@ -33,7 +34,8 @@ count_step f whole now new n i h grown before =
     ∙ sym (ap (λ l. now ++ flat f l) (count_next n i h))
     ∙ before
 
-pub count_end : {B : Type 0} (f : ℕ → List B) (whole now : List B) (n i : ℕ) → n ≤ i → now ++ flat f (count_up i (n - i)) ≡ whole → now ≡ whole
+pub count_end : {B : Type 0} (f : ℕ → List B) (whole now : List B) (n i : ℕ) → n ≤ i → now ++ flat f (count_up i (n - i)) ≡ whole
+    → now ≡ whole
 count_end f whole now n i h before =
     let e : n - i ≡ 0 = omega (arith, h) in
     let none : flat f (count_up i (n - i)) ≡ [] = rw e refl in
@@ -44,7 +46,8 @@ drop_next xs i x h =
     let at = get_within xs i x h in
     drop_more xs i x at.0 ∙ ap (λ y. y ∷ drop (i + 1) xs) (sym at.1)
 
-pub places_step : {A B : Type 0} (f : ℕ → A → List B) (whole now new : List B) (xs : List A) (i : ℕ) (x : A) → slice_get xs i ≡ Some x → new ≡ now ++ f i x
+pub places_step : {A B : Type 0} (f : ℕ → A → List B) (whole now new : List B) (xs : List A) (i : ℕ) (x : A) → slice_get xs i ≡ Some x
+    → new ≡ now ++ f i x
     → now ++ flat_places f i (drop i xs) ≡ whole → new ++ flat_places f (i + 1) (drop (i + 1) xs) ≡ whole
 places_step f whole now new xs i x at grown before =
     ap (λ l. l ++ flat_places f (i + 1) (drop (i + 1) xs)) grown
@@ -76,7 +79,8 @@ pub flat_same : {A B : Type 0} (f g : A → List B) → ((x : A) → f x ≡ g x
 flat_same f g same [] = refl
 flat_same f g same (x ∷ xs) = ap (λ l. l ++ flat f xs) (same x) ∙ ap (λ l. g x ++ l) (flat_same f g same xs)
 
-pub places_same : {A B : Type 0} (f g : ℕ → A → List B) → ((i : ℕ) (x : A) → f i x ≡ g i x) → (at : ℕ) (xs : List A) → flat_places f at xs ≡ flat_places g at xs
+pub places_same : {A B : Type 0} (f g : ℕ → A → List B) → ((i : ℕ) (x : A) → f i x ≡ g i x) → (at : ℕ) (xs : List A)
+    → flat_places f at xs ≡ flat_places g at xs
 places_same f g same at [] = refl
 places_same f g same at (x ∷ xs) = ap (λ l. l ++ flat_places f (at + 1) xs) (same at x) ∙ ap (λ l. g at x ++ l) (places_same f g same (at + 1) xs)
 
@@ -138,7 +142,8 @@ pub targets_are : (origin : Origin) (role : ℕ) (needs : List Need)
 targets_are origin role needs =
     flat_of_places (λ target. map (act_by origin role target) (picks target (length needs)))
     (λ place need. if_wanted (is_of_use origin role need) place) 0 needs
-    ∙ places_same (λ place need. flat (λ target. map (act_by origin role target) (picks target (length needs))) (if_wanted (is_of_use origin role need) place))
+    ∙ places_same (λ place need. flat (λ target. map (act_by origin role target) (picks target (length needs)))
+    (if_wanted (is_of_use origin role need) place))
     (by_target origin role (length needs))
     (λ place need. flat_wanted (λ target. map (act_by origin role target) (picks target (length needs))) (is_of_use origin role need) place
     ∙ ap (only_if (is_of_use origin role need)) (picks_are origin role place (length needs)))
@@ -151,7 +156,8 @@ of_origin origin order range needs =
     (flat_places (λ place need. if_wanted (is_of_use origin role need) place) 0 needs))
     (roles_in order range)
 
-pub roles_are : (origin : Origin) (order : Graph) (range : Range) (needs : List Need) → of_origin origin order range needs ≡ by_roles origin order range needs
+pub roles_are : (origin : Origin) (order : Graph) (range : Range) (needs : List Need)
+    → of_origin origin order range needs ≡ by_roles origin order range needs
 roles_are origin order range needs =
     flat_same (λ role. flat (λ target. map (act_by origin role target) (picks target (length needs)))
     (flat_places (λ place need. if_wanted (is_of_use origin role need) place) 0 needs))
@@ -170,7 +176,8 @@ pub obligations_are : (rules : Rules) (needs : List Need)
     → flat_places (by_assign rules needs) 0 rules.assign ++ flat_places (by_revoke rules needs) 0 rules.revoke ≡ obligations rules needs
 obligations_are rules needs =
     sym (ap (λ l. l ++ flat_places (λ i rule. of_origin (Weak i) rules.order rule.range needs) 0 rules.revoke)
-    (places_same (λ i rule. flat_places (λ j conjunct. of_origin (Assign i j) rules.order rule.range needs) 0 (conjuncts_of rules rule)) (by_assign rules needs)
+    (places_same (λ i rule. flat_places (λ j conjunct. of_origin (Assign i j) rules.order rule.range needs) 0 (conjuncts_of rules rule))
+    (by_assign rules needs)
     (λ i rule. assign_are rules needs i rule) 0 rules.assign)
     ∙ ap (λ l. flat_places (by_assign rules needs) 0 rules.assign ++ l)
     (places_same (λ i rule. of_origin (Weak i) rules.order rule.range needs) (by_revoke rules needs)

@@ -15,11 +15,13 @@ use Rattle.req_pre.specs.declared.owed.Obligation.TheVariants.{Assign, Weak}
 abbrev pub lists_of : List (Vec Conjunct Global) → List (List Need)
 lists_of lists = map (λ list. needs_of list.items) lists
 
+-- an administrator as the laws see it
 abbrev pub pick_of : Pick → Picked
 pick_of Itself = itself
 pick_of (Other place) = other place
 pick_of Fresh = fresh
 
+-- an obligation as the laws see it
 abbrev pub owed_of : Obligation → Owed
 owed_of (Assign rule conjunct role target admin) = assigns rule conjunct role target (pick_of admin)
 owed_of (Weak rule role target admin) = revokes rule role target (pick_of admin)

@@ -1,6 +1,7 @@
 //! Pre-images.
 
-ghost use Rattle.std.specs.Prelude.{ℕ, ◌≡◌, ◌<◌, ◌++◌, [], ◌∷◌, not, if◌then◌else◌, length, map, filter, slice_get, slice_set, option_map, IfOk, IfSome, OnOk};
+ghost use Rattle.std.specs.Prelude.{ℕ, ◌≡◌, ◌<◌, ◌++◌, [], ◌∷◌, not, if◌then◌else◌, length, map, filter, slice_get, slice_set};
+ghost use Rattle.std.specs.Prelude.{option_map, IfOk, IfSome, OnOk};
 ghost use Rattle.std.specs.List.{list_any};
 ghost use Rattle.list_words.specs.Lists.{Each};
 ghost use Rattle.role_order.specs.Reach.{seniors_of};
@@ -18,6 +19,7 @@ ghost use Rattle.req_pre.specs.Preparing.{conjuncts_of};
 ghost use Rattle.req_pre.specs.Views.{owed_of, pick_of};
 ghost use Rattle.req_pre.specs.Answers.{ArePrePlaces};
 
+use crate::NoMemory;
 use crate::owed::{Obligation, Pick};
 use crate::prepared::Prepared;
 use crate::raw::raw_user;
@@ -342,7 +344,7 @@ pub fn pre(
     prepared: &Prepared,
     req: &Req,
     ob: &Obligation,
-) -> Result<Option<Normal>, AllocError>
+) -> Result<Option<Normal>, NoMemory>
     ensures form { IfOk result (λ normal. form_in normal ≡ pre_form prepared.now req.now (owed_of ob.now)) }
     ensures places { IfOk result (λ normal. IfSome normal (ArePrePlaces prepared.now req.now (owed_of ob.now))) }
 {

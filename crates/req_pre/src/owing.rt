@@ -14,6 +14,7 @@ ghost use Rattle.req_pre.specs.Preparing.{conjuncts_of};
 ghost use Rattle.req_pre.specs.Views.{owed_of, pick_of};
 ghost use Rattle.req_pre.specs.Owing.{act_by, is_of_use, by_other, by_picks, by_target, by_targets, by_role, by_roles, by_conjuncts, by_assign, by_revoke};
 
+use crate::NoMemory;
 use crate::owed::{Obligation, Pick};
 use crate::prepared::Prepared;
 use arbac_policy::Policy;
@@ -315,7 +316,7 @@ pub fn obligations(
     alloc: Global,
     prepared: &Prepared,
     req: &Req,
-) -> Result<Vec<Obligation>, AllocError>
+) -> Result<Vec<Obligation>, NoMemory>
     ensures { IfOk result (λ list. map owed_of list.items ≡ laws.obligations prepared.now req.now) }
 {
     let mut list = Vec::new(alloc);

@@ -22,8 +22,8 @@ pub struct FileShelf<R: Files + Drop> {
 impl<R: Files + Drop> FileShelf<R> {
     /// A shelf that hasn't failed yet.
     pub fn new(rt: R, alloc: Global) -> FileShelf<R>
-        ensures missed { ⟦<FileShelf<R> as Shelf>⟧.missed result ≡ [] }
-        ensures faults { ⟦<FileShelf<R> as Shelf>⟧.faults result ≡ 0 }
+        ensures missed { (⟦<FileShelf<R> as Shelf>⟧.seen result).missed ≡ [] }
+        ensures faults { (⟦<FileShelf<R> as Shelf>⟧.seen result).faults ≡ 0 }
     {
         FileShelf {
             rt,
@@ -55,11 +55,11 @@ fn read_front<F: Read>(alloc: Global, file: &mut F, most: u32) -> Result<Vec<u8>
 }
 
 impl<R: Files + Drop> Shelf for FileShelf<R> {
-    ghost told = { λ s name. None };
-
-    ghost missed = { λ s. string_bytes s.missed };
-
-    ghost faults = { λ s. s.faults };
+    ghost seen = { λ s. record {
+      told = λ _. None;
+      missed = string_bytes s.missed;
+      faults = s.faults;
+    } };
 
     /// A path that can't be opened, a folder and an error while reading are faults.
     fn fetch(&mut self, name: &str, most: u32) -> Result<Vec<u8>, ShelfError> {

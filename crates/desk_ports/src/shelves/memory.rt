@@ -69,11 +69,11 @@ fn front_of(
 }
 
 impl Shelf for MemShelf {
-    ghost told = { λ s name. Some (text_named s.texts name) };
-
-    ghost missed = { λ s. s.missed };
-
-    ghost faults = { λ s. s.plan.faults };
+    ghost seen = { λ s. record {
+      told = λ name. Some (text_named s.texts name);
+      missed = s.missed;
+      faults = s.plan.faults;
+    } };
 
     /// A call that finds no memory isn't counted.
     fn fetch(&mut self, name: &str, most: u32) -> Result<Vec<u8>, ShelfError>

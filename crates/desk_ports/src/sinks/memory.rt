@@ -43,9 +43,7 @@ impl MemSink {
 }
 
 impl Sink for MemSink {
-    ghost taken = { λ s. Some s.taken };
-
-    ghost faults = { λ s. s.plan.faults };
+    ghost seen = { λ s. record { taken = Some s.taken; faults = s.plan.faults } };
 
     /// A call that finds no memory isn't counted.
     fn put(&mut self, bytes: &[u8]) -> Result<(), SinkError>

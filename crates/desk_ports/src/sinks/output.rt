@@ -1,5 +1,5 @@
 //! A sink over a writer of the system, as standard output.
-ghost use Rattle.std.specs.Prelude.{ℕ, ◌≡◌, List, take, Option, None, OnOk, OnErr, IsErrOf, MatchBool};
+ghost use Rattle.std.specs.Prelude.{ℕ, ◌≡◌, List, take, Option, None, Err, OnOk, OnErr, IsErrOf, MatchBool};
 ghost use Rattle.std.specs.Io.KnownBytes.{Appends};
 ghost use Rattle.desk_ports.specs.Faults.{HasCause};
 ghost use Rattle.desk_ports.specs.Sinks.{AppendsFront};
@@ -49,14 +49,15 @@ fn write_whole<W: Write>(writer: &mut W, bytes: &[u8]) -> bool
 }
 
 impl<W: Write + Drop> Sink for OutSink<W> {
-    ghost taken = { λ s. None };
-
-    ghost faults = { λ s. s.faults };
+    ghost seen = { λ s. record { taken = None; faults = s.faults } };
 
     /// Each error of the writer is a fault, and so is a write that takes nothing.
     fn put(&mut self, bytes: &[u8]) -> Result<(), SinkError>
         ensures cause { HasCause self.old.faults self.new.faults
             (IsErrOf result SinkError.Failed) }
+
+        // It takes no memory.
+        ensures never { ¬ (result ≡ Err SinkError.Memory) }
 
         // Where the writer tells what it holds, it took the bytes, or after an error a prefix.
         ensures written { OnOk result (Appends self.old.written self.new.written bytes.now) }

@@ -56,6 +56,10 @@ fn an_output_takes_all_but_where_its_writer_fails(rt: HostRuntime) -> Result<(),
     assert_eq!(rt; sink.put(b"a line\n"), Ok(()));
     assert_eq!(rt; sink.put(b""), Ok(()));
     assert_eq!(rt; got.as_slice(), b"a line\n".as_slice());
+    let mut got = Vec::new(rt.alloc());
+    let large = vec![in rt.alloc(); b'x'; 100_000]?;
+    assert_eq!(rt; OutSink::new(&mut got).put(&large), Ok(()), "a long text");
+    assert_eq!(rt; got, large, "a long text");
     for errs in [true, false] {
         let mut got = Vec::new(rt.alloc());
         let mut sink = OutSink::new(Slow {

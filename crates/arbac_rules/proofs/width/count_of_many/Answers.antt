@@ -16,7 +16,8 @@ overflow_mul-combinations c =
     let conds = c.args.goal.now in
     let cond = c.cond-item.result in
     let at = get_at conds c.loop-cond.cond-index cond c.loop-cond-test.true ∙ ap (λ (x : Cond). Some x) (sym c.cond-item.is) in
-    let fits = combinations_fit c.loop-cond.combinations c.width_of-combinations.result (term_of cond) c.loop-cond.invariant.few c.width_of-combinations.ensures
+    let fits = combinations_fit c.loop-cond.combinations c.width_of-combinations.result
+    (term_of cond) c.loop-cond.invariant.few c.width_of-combinations.ensures
     (each_at (λ x. term_count (term_of x) ≤ MOST_TERMS) conds c.loop-cond.cond-index cond c.requires at) in
     omega (fits, arith)
 
@@ -29,7 +30,8 @@ returns-then-combinations c =
     let more = drop (c.loop-cond.cond-index + 1) (map term_of conds) in
     let many : MOST_CONJUNCTS < n * width (term_of cond) = subst (λ w. MOST_CONJUNCTS < n * w) c.width_of-combinations.ensures c.if-combinations.true in
     ap (λ w. Some (n * w)) c.width_of-combinations.ensures
-    ∙ sym (c.loop-cond.invariant.rest ∙ ap (too_many_from n) (terms_from conds c.loop-cond.cond-index cond c.loop-cond-test.true c.cond-item.is) ∙ many_here n (term_of cond) more many)
+    ∙ sym (c.loop-cond.invariant.rest ∙ ap (too_many_from n) (terms_from conds c.loop-cond.cond-index cond c.loop-cond-test.true c.cond-item.is)
+    ∙ many_here n (term_of cond) more many)
 
 -- the count is still within the limit, so counting goes on behind this condition
 pub loop-cond-preserved : goal.loop-cond-preserved

@@ -8,7 +8,8 @@ use Rattle.arbac_rules.proofs.WidthLemmas.{width_law}
 use Rattle.arbac_rules.proofs.GoalWidthLemmas.{few_combinations, told_count, goal_width_law}
 use Rattle.arbac_rules.proofs.width.too_many.Goals as goal
 
-none_few : (told : Option ℕ) (conds : List Term) → told ≡ too_many conds → IfNone told ((order : Graph) → length (goal_requirements order conds) ≤ MOST_CONJUNCTS)
+none_few : (told : Option ℕ) (conds : List Term) → told ≡ too_many conds
+    → IfNone told ((order : Graph) → length (goal_requirements order conds) ≤ MOST_CONJUNCTS)
 none_few None conds e = λ order. let few = few_combinations 1 conds (omega arith) (sym e) in omega (few, goal_width_law order conds, arith)
 none_few (Some count) conds e = tt
 

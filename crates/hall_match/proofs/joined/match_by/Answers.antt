@@ -42,4 +42,5 @@ returns-clause-unmatched g c =
     deficient_of c.in_ok-answer.answer _ _
     (λ items none. of_pairs (g.E.Edges.joins c.args.edges.now) c.in_ok-items.items c.in_ok-places.places c.args.left
     (length c.args.capacities.now) c.in_ok-pairs.pairs.items
-    (λ n pairs. (list : List ℕ) → ¬ IsMatching n c.args.capacities.now pairs list) c.in_ok-items.ensures c.in_ok-places.ensures c.in_ok-pairs.ensures none) read
+    (λ n pairs. (list : List ℕ)
+    → ¬ IsMatching n c.args.capacities.now pairs list) c.in_ok-items.ensures c.in_ok-places.ensures c.in_ok-pairs.ensures none) read

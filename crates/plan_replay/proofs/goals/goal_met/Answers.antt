@@ -32,4 +32,5 @@ returns-clause-unmet c =
     let none : (list : List ℕ) → ¬ IsTransversal (JoinsAt (MeetsOne edges) goal sets) (length c.args.goal.now) (length sets) list =
     rw (c.order.ensures.order) at h in
     none_embeds (MeetsOne edges) goal sets
-    (subst (λ n. (list : List ℕ) → ¬ IsTransversal (JoinsAt (MeetsOne edges) goal sets) n (length sets) list) (sym (length-map c.args.goal.now term_of)) none))
+    (subst (λ n. (list : List ℕ) → ¬ IsTransversal (JoinsAt (MeetsOne edges) goal sets) n (length sets) list)
+    (sym (length-map c.args.goal.now term_of)) none))

@@ -23,7 +23,8 @@ returns-clause-placed c needs need same placed =
     let spot : IsSpot need_before c.args.user users at = rw c.deref.ensures.value at c.place_of-at.ensures in
     let inserted : c.insert-2.new.self.items ≡ insert_by need_before c.args.user users =
     c.in_ok-insert-2.ensures.items ∙ insert_at need_before c.args.user users at spot in
-    let told : c.insert.new.self.items ≡ at ∷ map (moved at) places = c.in_ok-insert.ensures.items ∙ ap (λ (t : List ℕ). at ∷ t) c.make_room.ensures in
+    let told : c.insert.new.self.items ≡ at ∷ map (moved at) places = c.in_ok-insert.ensures.items
+    ∙ ap (λ (t : List ℕ). at ∷ t) c.make_room.ensures in
     let now = one_placed needs users places need c.args.user at same spot placed in
     subst (λ (form : List Need). IsPlaced (need ∷ needs) form c.insert.new.self.items) (sym inserted)
     (subst (λ (list : List ℕ). IsPlaced (need ∷ needs) (insert_by need_before c.args.user users) list) (sym told) now)

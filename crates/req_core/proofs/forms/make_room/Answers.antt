@@ -9,7 +9,8 @@ use Rattle.req_core.proofs.forms.make_room.Goals as goal
 pub move_on-requires : goal.move_on-requires
 move_on-requires c =
     let items = c.deref_mut-place-items.result.now in
-    let small : Each (λ place. place + 1 < 2 ^ 32) items = subst (Each (λ place. place + 1 < 2 ^ 32)) (sym c.deref_mut-place-items.ensures.value) c.requires in
+    let small : Each (λ place. place + 1 < 2 ^ 32) items = subst (Each (λ place. place + 1 < 2 ^ 32))
+    (sym c.deref_mut-place-items.ensures.value) c.requires in
     each_at (λ place. place + 1 < 2 ^ 32) items c.loop-place.place-index (get_or c.loop-place.place-items c.loop-place.place-index 0) small
     (unchanged (moved c.args.at) items c.loop-place.place-items c.loop-place.place-index 0
     (omega (arith, c.loop-place.auto.place-items, c.loop-place-test.true)) c.loop-place.invariant)

@@ -4,8 +4,8 @@ use Rattle.arbac_laws.specs.Closed.{IsUnmet}
 use Rattle.arbac_laws.specs.Needs.{MeetsBy}
 use Rattle.hall_match.specs.Matchings.{IsDeficient, IsLeast, IsMatching}
 use Rattle.hall_match.specs.Joined.{OfPairs}
-use Rattle.req_core.specs.Serving.{AreUnserved, ServesLeast, counts}
-use Rattle.req_core.proofs.ServeLemmas.{ServedAt, deficient_unserved, least_serves, none_unmet, serves_users}
+use Rattle.arbac_laws.specs.Serving.{AreUnserved, ServesLeast, counts}
+use Rattle.arbac_laws.proofs.ServeLemmas.{ServedAt, deficient_unserved, least_serves, none_unmet, serves_users}
 use Rattle.req_core.proofs.service.met.Goals as goal
 
 -- the least matching is the least choice

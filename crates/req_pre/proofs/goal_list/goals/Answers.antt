@@ -25,5 +25,6 @@ returns-in-Ok-clause-few c =
     let conds = map term_of c.args.goal.now in
     let none : IfNone c.too_many.result ((order : Graph) → length (goal_requirements order conds) ≤ MOST_CONJUNCTS) = c.too_many.ensures.few in
     let few : length (goal_requirements order conds) ≤ MOST_CONJUNCTS = no_count c.too_many.result none (search rules) order in
-    let long = sym (length_mapped form_in c.in-Ok.list.items) ∙ ap length c.in-Ok.ensures.list ∙ length_mapped normal_form (goal_requirements order conds) in
+    let long = sym (length_mapped form_in c.in-Ok.list.items) ∙ ap length c.in-Ok.ensures.list
+    ∙ length_mapped normal_form (goal_requirements order conds) in
     omega (few, long, arith)

@@ -11,4 +11,5 @@ loop-user-preserved c =
     let at = item_there tail c.loop-user.user-index user c.loop-user-test.true c.user-item.is in
     let copied : need_of c.in_ok-raw_user-2.field-0 ≡ need_of user = rw (c.deref-in-loop-user.ensures.value) at c.in_ok-raw_user-2.ensures in
     seen_more need_of (need_of c.args.first.now ∷ []) (needs_of tail) c.loop-user.raw.items c.push-in-loop-user.new.self.items c.loop-user.user-index
-    c.in_ok-raw_user-2.field-0 (need_of user) c.loop-user.invariant (at_mapped need_of tail c.loop-user.user-index user at) c.in_ok-push-2.ensures.items copied
+    c.in_ok-raw_user-2.field-0 (need_of user) c.loop-user.invariant
+    (at_mapped need_of tail c.loop-user.user-index user at) c.in_ok-push-2.ensures.items copied

@@ -43,4 +43,5 @@ pub returns-clause-narrow : goal.returns-clause-narrow
 returns-clause-narrow c =
     let rules = c.args.policy.now in
     let all : length rules.assign ≤ c.loop-place.place = rw (c.assign-rule-items.ensures) at c.loop-place-test.false in
-    each_of (λ (x : CanAssign). ¬ IsWide x) rules.assign (λ k x e. c.loop-place.invariant.narrow k x (omega ((get_within rules.assign k x e).0, all, arith)) e)
+    each_of (λ (x : CanAssign). ¬ IsWide x) rules.assign
+    (λ k x e. c.loop-place.invariant.narrow k x (omega ((get_within rules.assign k x e).0, all, arith)) e)

@@ -4,7 +4,8 @@ use Rattle.hall_match.specs.Holding.{given_at}
 use Rattle.hall_match.proofs.HoldingLemmas.{holder_count-release, counted_release, inside_release}
 use Rattle.hall_match.proofs.partial_matching.PartialMatching.release.Goals as goal
 
-was_given : (given : List (Option ℕ)) (item : ℕ) (read : Option ℕ) (place : ℕ) → item < length given → read ≡ get_or given item read → read ≡ Some place
+was_given : (given : List (Option ℕ)) (item : ℕ) (read : Option ℕ) (place : ℕ) → item < length given → read ≡ get_or given item read
+    → read ≡ Some place
     → given_at given item ≡ Some place
 was_given given item read place l is some = sym (get_or_read {X = Option ℕ} given item read l is None) ∙ some
 

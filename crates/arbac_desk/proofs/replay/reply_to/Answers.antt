@@ -1,0 +1,27 @@
+use Rattle.std.proofs.Common.{◌≡◌, ◌∙◌, inr, sym, length, refl}
+use Rattle.std.proofs.lemmas.Bool.{false≢true}
+use Rattle.policy_text.specs.declared.run_error.RunError.TheVariants as runs
+use Rattle.arbac_desk.proofs.ReplayLemmas.{no_value, known_conds, first_fault}
+use Rattle.arbac_desk.proofs.replay.reply_to.Goals as goal
+
+-- the error is the first fault, since it isn't want of memory
+pub returns-in_ok-text-in-Err : goal.returns-in_ok-text-in-Err
+returns-in_ok-text-in-Err c =
+    let told : c.in-Err.error ≡ runs.Memory → ⊥ = λ e. false≢true (sym c.if-is_memory.false ∙ c.is_memory.ensures.1 e) in
+    inr (inr (
+      refl,
+      inr (
+        c.if-bytes-gt-MOST_RUN_BYTES.false,
+        c.in-Err.error,
+        record {
+          first = first_fault c.args.bytes.now c.in-Err.error c.in-Err.ensures.first told;
+          told = told;
+          none = no_value c.args.bytes.now c.in-Err.error c.in-Err.ensures.only told;
+        },
+        c.in_ok-text-in-Err.ensures,
+      ),
+    ))
+
+-- the conditions of a run that was read are on roles of its order
+pub reply_to_run-requires-clause-known : goal.reply_to_run-requires-clause-known
+reply_to_run-requires-clause-known c = known_conds (length c.in-Ok.run'.policy.order.names) c.in-Ok.run'.goal.items c.in-Ok.ensures.known
