@@ -21,6 +21,7 @@ fn bare_hits(alloc: Global, raw: &RawUser) -> Result<Option<Vec<RoleSet>>, Alloc
         ≡ (if list_any is_empty (forms.bare_hits (need_of raw.now)) then None else Some (forms.bare_hits (need_of raw.now)))) }
     ensures sets { IfOk result (λ hits. IfSome hits (λ _. AreSets (need_of raw.now))) }
 {
+    raw.lacks.is_role_set();
     let mut hits = Vec::with_capacity(alloc, raw.hits.len())?;
     for hit in &raw.hits {
         hit.is_role_set();
