@@ -1,10 +1,10 @@
 -- The normal form of one user requirement, hit by hit.
-use Rattle.std.proofs.Common.{ℕ, ◌≡◌, ◌<◌, ◌≤◌, ◌∙◌, Bool, true, false, not, cond, List, [], ◌∷◌, length, map, Some, zero, suc}
+use Rattle.std.proofs.Common.{ℕ, ◌≡◌, ◌∙◌, Bool, true, false, not, cond, List, [], ◌∷◌, map, Some, zero, suc}
 use Rattle.std.proofs.Common.{refl, ap, sym, subst, arith, take, drop}
 use Rattle.std.specs.Prelude.{◌||◌, None, slice_get, insert, filter}
 use Rattle.std.specs.List.{list_any}
 use Rattle.list_words.specs.Lists.{Each}
-use Rattle.role_order.specs.Roles.{Rises, less_roles, is_within}
+use Rattle.role_order.specs.Roles.{Rises, less_roles}
 use Rattle.arbac_laws.specs.Needs.{IsPossibleNeed, Need}
 use Rattle.arbac_laws.specs.PreImages.{is_empty}
 use Rattle.arbac_laws.specs.NormalForms.{AreSets, IsNormalNeed, bare_hits, insert_by, insert_once, least_hits, normal_need, sort_once}
@@ -12,11 +12,6 @@ use Rattle.role_order.specs.Orders.{set_before}
 use Rattle.req_core.specs.Forms.{IsSpot}
 use Rattle.list_words.proofs.GetLemmas.{some_cond}
 use Rattle.arbac_laws.proofs.NormalLemmas.{normal_is_normal, not_possible}
-
--- a set lies within no roles where it is empty
-pub within_none : (xs : List ℕ) → is_within xs [] ≡ is_empty xs
-within_none [] = refl
-within_none (x ∷ xs) = refl
 
 -- bare hits
 

@@ -1,10 +1,9 @@
 -- Tests of sets, and what they say.
-use Rattle.std.proofs.Common.{ℕ, ◌≡◌, Bool, true, false, not, List, [], ◌∷◌, eqb, subst, sym, refl, inl, inr}
-use Rattle.std.specs.Prelude.{◌⊎◌, IsTrue}
+use Rattle.std.proofs.Common.{ℕ, ◌≡◌, Bool, true, false, not, List, refl}
+use Rattle.std.specs.Prelude.{IsTrue}
 use Rattle.std.specs.List.{list_all}
-use Rattle.std.proofs.lemmas.Bool.{eqb-true, eq-eqb}
-use Rattle.role_order.specs.Roles.{has_role, have_common, IsIn, HaveCommon}
-use Rattle.list_words.proofs.TestLemmas.{not_false, or_cases, or_right}
+use Rattle.role_order.specs.Roles.{have_common, HaveCommon}
+use Rattle.list_words.proofs.TestLemmas.{not_false}
 use Rattle.arbac_laws.specs.Needs.{Need, MeetsNeed}
 use Rattle.arbac_laws.proofs.SameLemmas.{all_each, each_all}
 use Rattle.arbac_laws.proofs.GainLemmas.{common_is, is_common}

@@ -7,7 +7,6 @@ ghost use Rattle.role_order.specs.Orders.{set_before};
 ghost use Rattle.arbac_laws.specs.PreImages.{is_empty};
 ghost use Rattle.arbac_laws.specs.NormalForms as forms;
 ghost use Rattle.arbac_laws.specs.NormalForms.{least_hits, insert_once, sort_once, normal_need, AreSets, IsNormalNeed};
-ghost use Rattle.role_order.specs.Roles.{Rises};
 ghost use Rattle.arbac_laws.specs.Views.{need_of};
 
 use crate::RawUser;
@@ -16,26 +15,18 @@ use crate::sorted::{Ranked, place_of};
 use role_order::RoleSet;
 use std::alloc::{AllocError, Global};
 
-/// The same set, which is known to rise.
-fn known(set: &RoleSet) -> RoleSet
-    ensures set { result ≡ set.now }
-    ensures rises { Rises set.now }
-{
-    let _ = set.has(0);
-    *set
-}
-
 /// The hits without the lacks; none where one of them has no role left.
 fn bare_hits(alloc: Global, raw: &RawUser) -> Result<Option<Vec<RoleSet>>, AllocError>
     ensures hits { IfOk result (λ hits. option_map (λ list. list.items) hits
         ≡ (if list_any is_empty (forms.bare_hits (need_of raw.now)) then None else Some (forms.bare_hits (need_of raw.now)))) }
     ensures sets { IfOk result (λ hits. IfSome hits (λ _. AreSets (need_of raw.now))) }
 {
-    let lacks = known(&raw.lacks);
+    raw.lacks.is_role_set();
     let mut hits = Vec::with_capacity(alloc, raw.hits.len())?;
     for hit in &raw.hits {
-        let rest = known(hit).less(&lacks);
-        if rest.within(&RoleSet::empty()) {
+        hit.is_role_set();
+        let rest = hit.less(&raw.lacks);
+        if rest.is_empty() {
             return Ok(None);
         }
         hits.push(rest)?;

@@ -1,6 +1,6 @@
 -- Combinations of conjuncts, and the lists that loops build of them.
 use Rattle.std.proofs.Common.{ℕ, ◌≡◌, ◌<◌, ◌+◌, ◌∙◌, List, [], ◌∷◌, ◌++◌, length, map, take, get_or, Option, Some}
-use Rattle.std.proofs.Common.{append_assoc, refl, sym, ap, subst, inl, inr}
+use Rattle.std.proofs.Common.{append_assoc, sym, ap, subst, inl, inr}
 use Rattle.std.specs.Prelude.{slice_get, IfSome, ◌⊎◌}
 use Rattle.std.proofs.lemmas.List.{append-nil, map_push}
 use Rattle.list_words.proofs.GetLemmas.{get_at, get_last_cases, take_one_more}

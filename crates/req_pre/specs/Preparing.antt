@@ -1,6 +1,5 @@
 -- A policy with the conjuncts of its rules.
-use Rattle.std.specs.Prelude.{◌≡◌, ◌<◌, ◌≤◌, List, map, Vec}
-use Rattle.std.specs.declared.alloc.Global.{Global}
+use Rattle.std.specs.Prelude.{◌≡◌, ◌<◌, ◌≤◌, List}
 use Rattle.list_words.specs.Lists.{Each, IsFirst}
 use Rattle.arbac_policy.specs.declared.rule.CanAssign.{CanAssign}
 use Rattle.arbac_policy.specs.Truth.{term_of}
@@ -9,9 +8,7 @@ use Rattle.cond_text.specs.Grammar.{term_count}
 use Rattle.cond_text.specs.declared.TheConstants.{MOST_TERMS}
 use Rattle.arbac_laws.specs.Needs.{Need}
 use Rattle.arbac_laws.specs.Conjuncts.{conjuncts}
-use Rattle.arbac_policy.specs.declared.conjunct.Conjunct.{Conjunct}
 use Rattle.arbac_rules.specs.declared.TheConstants.{MOST_CONJUNCTS}
-use Rattle.arbac_laws.specs.Views.{needs_of}
 use Rattle.arbac_rules.specs.Widths.{width}
 use Rattle.req_pre.specs.declared.answers.PrepareError.{PrepareError}
 use Rattle.req_pre.specs.declared.answers.PrepareError.TheVariants.{TooWide, Memory}
