@@ -60,7 +60,8 @@ whole all bytes e l =
     e' ∙ take_short all MOST_RUN_BYTES few
 
 -- the reply to what was fetched is the reply to what the file holds
-replied : (name all bytes : List ℕ) (status : ℕ) (text : List ℕ) → bytes ≡ take (MOST_RUN_BYTES + 1) all → IsReplyTo name bytes status text → IsReplyTo name all status text
+replied : (name all bytes : List ℕ) (status : ℕ) (text : List ℕ) → bytes ≡ take (MOST_RUN_BYTES + 1) all → IsReplyTo name bytes status text
+    → IsReplyTo name all status text
 replied name all bytes status text e (inl (told, h)) = inl (told, subst (λ b. IsDone b text) (whole all bytes e h.ends.few) h)
 replied name all bytes status text e (inr (inl (told, inl h))) = inr (inl (told, inl (subst (λ b. IsUnmet b text) (whole all bytes e h.ends.few) h)))
 replied name all bytes status text e (inr (inl (told, inr h))) = inr (inl (told, inr (subst (λ b. IsStopped b text) (whole all bytes e h.few) h)))
@@ -154,7 +155,8 @@ replay_faults run shelf shelf' sink sink' status answer = record {
 }
 
 -- its status stands in the table
-pub replay_known : (run : List ℕ) (shelf shelf' : ShelfView) (sink sink' : SinkView) (status : ℕ) → IsReplayAnswer run shelf shelf' sink sink' status → IsStatus status
+pub replay_known : (run : List ℕ) (shelf shelf' : ShelfView) (sink sink' : SinkView) (status : ℕ) → IsReplayAnswer run shelf shelf' sink sink' status
+    → IsStatus status
 replay_known run shelf shelf' sink sink' status answer = is_status (IsReplayReply run shelf shelf') sink sink' status (reply_known run shelf shelf') answer.says
 
 -- bytes that are told as malformed are no run text
@@ -163,8 +165,8 @@ not_run_text name bytes text (inl h) run = absurd (omega (arith, h.0, run.0))
 not_run_text name bytes text (inr h) run = h.2.none run.1 run.2
 
 -- where neither count rose and memory was left, the file's bytes have a reply
-faultless : (run bytes : List ℕ) (shelf shelf' : ShelfView) (sink sink' : SinkView) (status : ℕ) → shelf.told run ≡ Some bytes → IsReplayAnswer run shelf shelf' sink sink' status
-    → IsFaultless shelf shelf' sink sink' → (status ≡ NO_MEMORY) ⊎ ((text : List ℕ) × IsReplyTo run bytes status text)
+faultless : (run bytes : List ℕ) (shelf shelf' : ShelfView) (sink sink' : SinkView) (status : ℕ) → shelf.told run ≡ Some bytes
+    → IsReplayAnswer run shelf shelf' sink sink' status → IsFaultless shelf shelf' sink sink' → (status ≡ NO_MEMORY) ⊎ ((text : List ℕ) × IsReplyTo run bytes status text)
 faultless run bytes shelf shelf' sink sink' status told answer none = by_says answer.says
   where
     rose : (before now : ℕ) → now ≡ raised before → Rose before now
@@ -204,7 +206,8 @@ pub is_refused : (run : List ℕ) (shelf shelf' : ShelfView) (sink sink' : SinkV
     × ((IsRunText bytes → ⊥) → IsFaultless shelf shelf' sink sink' → (status ≡ 3) ⊎ (status ≡ 7)))
 is_refused run shelf shelf' sink sink' status answer = by_told (shelf.told run) refl
   where
-    by_reply : (bytes : List ℕ) → (IsRunText bytes → ⊥) → (status ≡ NO_MEMORY) ⊎ ((text : List ℕ) × IsReplyTo run bytes status text) → (status ≡ 3) ⊎ (status ≡ 7)
+    by_reply : (bytes : List ℕ) → (IsRunText bytes → ⊥) → (status ≡ NO_MEMORY) ⊎ ((text : List ℕ) × IsReplyTo run bytes status text)
+        → (status ≡ 3) ⊎ (status ≡ 7)
     by_reply bytes other (inl out) = inr out
     by_reply bytes other (inr (all, inl (told, h))) = absurd (other (h.ends.few, plain_of h.run, h.ends.stands))
     by_reply bytes other (inr (all, inr (inl (told, inl h)))) = absurd (other (h.ends.few, plain_of h.run, h.ends.stands))
