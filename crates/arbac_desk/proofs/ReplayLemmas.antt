@@ -1,5 +1,6 @@
 -- The reply to what was fetched, and to what the file holds; and what the answer to `replay` tells.
-use Rattle.std.proofs.Common.{ℕ, ◌≡◌, ◌≤◌, ◌+◌, ◌∙◌, List, [], ◌∷◌, length, take, refl, arith, zero, suc, subst, ap, inl, inr, Option, Some, None}
+use Rattle.std.proofs.Common.{ℕ, ◌≡◌, ◌≤◌, ◌+◌, ◌∙◌, List, [], ◌∷◌, length, take, refl, arith, zero, suc, subst, ap, inl, inr}
+use Rattle.std.proofs.Common.{Option, Some, None}
 use Rattle.std.specs.Prelude.{◌⊎◌, IfSome, IfOk, map, Result, Ok, Err}
 use Rattle.std.specs.declared.alloc.AllocError.{AllocError}
 use Rattle.list_words.specs.Lists.{Each}
@@ -23,7 +24,8 @@ use Rattle.arbac_policy.specs.Truth.{term_of, IsKnown}
 use Rattle.policy_text.specs.Runs.{RunValue, StandsFor, plain_of}
 
 -- where all that a text stands for is refused for want of memory, and that isn't the error, it stands for nothing
-pub no_value : (bytes : List ℕ) (error : RunError) → ((value : RunValue) → StandsFor bytes value → error ≡ runs.Memory) → (error ≡ runs.Memory → ⊥)
+pub no_value : (bytes : List ℕ) (error : RunError) → ((value : RunValue) → StandsFor bytes value → error ≡ runs.Memory)
+    → (error ≡ runs.Memory → ⊥)
     → (value : RunValue) → StandsFor bytes value → ⊥
 no_value bytes error only told value stands = told (only value stands)
 
@@ -70,7 +72,8 @@ replied name all bytes status text e (inr (inr (told, inl h))) =
     let same : length bytes ≡ length (take (MOST_RUN_BYTES + 1) all) = ap length e in
     inr (inr (told, inl (omega (arith, h.0, less, same), h.1)))
 replied name all bytes status text e (inr (inr (told, inr h))) =
-    let IsTold : List ℕ → Type 0 = λ b. (length b ≤ MOST_RUN_BYTES) × (fault : RunError) × IsNoRun b fault × (text ≡ malformed_line name (run_fault fault)) in
+    let IsTold : List ℕ → Type 0 = λ b. (length b ≤ MOST_RUN_BYTES) × (fault : RunError) × IsNoRun b fault
+    × (text ≡ malformed_line name (run_fault fault)) in
     inr (inr (told, inr (subst IsTold (whole all bytes e h.0) h)))
 
 -- it is one to bytes that the shelf tells, if it tells any
@@ -100,7 +103,8 @@ answered run shelf shelf' sink sink' reply status asked h says = record {
 -- ---- statuses
 
 -- the statuses of a reply to bytes
-reply_status : (name bytes : List ℕ) (status : ℕ) (text : List ℕ) → IsReplyTo name bytes status text → (status ≡ 0) ⊎ ((status ≡ 21) ⊎ (status ≡ 3))
+reply_status : (name bytes : List ℕ) (status : ℕ) (text : List ℕ) → IsReplyTo name bytes status text → (status ≡ 0)
+    ⊎ ((status ≡ 21) ⊎ (status ≡ 3))
 reply_status name bytes status text (inl h) = inl h.0
 reply_status name bytes status text (inr (inl h)) = inr (inl h.0)
 reply_status name bytes status text (inr (inr h)) = inr (inr h.0)
@@ -155,9 +159,10 @@ replay_faults run shelf shelf' sink sink' status answer = record {
 }
 
 -- its status stands in the table
-pub replay_known : (run : List ℕ) (shelf shelf' : ShelfView) (sink sink' : SinkView) (status : ℕ) → IsReplayAnswer run shelf shelf' sink sink' status
-    → IsStatus status
-replay_known run shelf shelf' sink sink' status answer = is_status (IsReplayReply run shelf shelf') sink sink' status (reply_known run shelf shelf') answer.says
+pub replay_known : (run : List ℕ) (shelf shelf' : ShelfView) (sink sink' : SinkView) (status : ℕ)
+    → IsReplayAnswer run shelf shelf' sink sink' status → IsStatus status
+replay_known run shelf shelf' sink sink' status answer =
+    is_status (IsReplayReply run shelf shelf') sink sink' status (reply_known run shelf shelf') answer.says
 
 -- bytes that are told as malformed are no run text
 not_run_text : (name bytes text : List ℕ) → IsMalformed name bytes text → IsRunText bytes → ⊥
@@ -166,7 +171,8 @@ not_run_text name bytes text (inr h) run = h.2.none run.1 run.2
 
 -- where neither count rose and memory was left, the file's bytes have a reply
 faultless : (run bytes : List ℕ) (shelf shelf' : ShelfView) (sink sink' : SinkView) (status : ℕ) → shelf.told run ≡ Some bytes
-    → IsReplayAnswer run shelf shelf' sink sink' status → IsFaultless shelf shelf' sink sink' → (status ≡ NO_MEMORY) ⊎ ((text : List ℕ) × IsReplyTo run bytes status text)
+    → IsReplayAnswer run shelf shelf' sink sink' status
+    → IsFaultless shelf shelf' sink sink' → (status ≡ NO_MEMORY) ⊎ ((text : List ℕ) × IsReplyTo run bytes status text)
 faultless run bytes shelf shelf' sink sink' status told answer none = by_says answer.says
   where
     rose : (before now : ℕ) → now ≡ raised before → Rose before now
@@ -206,8 +212,8 @@ pub is_refused : (run : List ℕ) (shelf shelf' : ShelfView) (sink sink' : SinkV
     × ((IsRunText bytes → ⊥) → IsFaultless shelf shelf' sink sink' → (status ≡ 3) ⊎ (status ≡ 7)))
 is_refused run shelf shelf' sink sink' status answer = by_told (shelf.told run) refl
   where
-    by_reply : (bytes : List ℕ) → (IsRunText bytes → ⊥) → (status ≡ NO_MEMORY) ⊎ ((text : List ℕ) × IsReplyTo run bytes status text)
-        → (status ≡ 3) ⊎ (status ≡ 7)
+    by_reply : (bytes : List ℕ) → (IsRunText bytes → ⊥) → (status ≡ NO_MEMORY) ⊎ ((text : List ℕ) × IsReplyTo run bytes status text) → (status ≡ 3)
+        ⊎ (status ≡ 7)
     by_reply bytes other (inl out) = inr out
     by_reply bytes other (inr (all, inl (told, h))) = absurd (other (h.ends.few, plain_of h.run, h.ends.stands))
     by_reply bytes other (inr (all, inr (inl (told, inl h)))) = absurd (other (h.ends.few, plain_of h.run, h.ends.stands))

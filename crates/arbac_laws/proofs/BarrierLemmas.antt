@@ -1,5 +1,6 @@
 -- Whatever is wanted before a barrier is covered by it, and no users that can be drawn meet it.
-use Rattle.std.proofs.Common.{ℕ, ◌≡◌, ◌<◌, ◌+◌, List, [], ◌∷◌, ◌++◌, length, Some, arith, zero, suc, sym, ◌∙◌, eqb, Bool, true, false, not, ◌||◌, cond, subst, refl, inl, inr}
+use Rattle.std.proofs.Common.{ℕ, ◌≡◌, ◌<◌, ◌+◌, List, [], ◌∷◌, ◌++◌, length, Some, arith, zero, suc, sym, ◌∙◌, eqb, Bool}
+use Rattle.std.proofs.Common.{true, false, not, ◌||◌, cond, subst, refl, inl, inr}
 use Rattle.std.specs.Prelude.{slice_get, slice_set, ◌⊎◌, filter}
 use Rattle.std.proofs.lemmas.Bool.{eqb-true, eq-eqb}
 use Rattle.role_order.proofs.ReachLemmas.{leads_from_below}
@@ -19,7 +20,8 @@ use Rattle.arbac_laws.specs.Closed.{IsUnmet}
 use Rattle.arbac_laws.specs.Conjuncts.{conjuncts, join_all, join_with}
 use Rattle.arbac_laws.specs.Needs.{Covers, CoversNeed, HasHits, IsCovered, Meets, Need}
 use Rattle.arbac_laws.specs.Obligations.{Obligation, obligations, pre_image}
-use Rattle.arbac_laws.specs.PreImages.{AssignObligation, IsPick, Pick, WeakObligation, add_hit, assign_pre_image, barred, is_barred, is_empty, weak_pre_image, with_admin, itself, other, fresh}
+use Rattle.arbac_laws.specs.PreImages.{AssignObligation, IsPick, Pick, WeakObligation, add_hit, assign_pre_image, barred, is_barred, is_empty}
+use Rattle.arbac_laws.specs.PreImages.{weak_pre_image, with_admin, itself, other, fresh}
 use Rattle.arbac_laws.proofs.ConjunctLemmas.{AreSeniors}
 use Rattle.list_words.proofs.EachLemmas.{each_append, each_at, some_right, some_weaker}
 use Rattle.arbac_laws.proofs.ObligationLemmas.{IsAssigning, IsRevoking, in_parts}
@@ -33,18 +35,21 @@ in_outside count set role l o = has_role-filter (λ r. not (has_role set r)) (co
 
 pub outside_out : (count : ℕ) (set : List ℕ) (role : ℕ) → IsIn (outside count set) role → IsIn set role → ⊥
 outside_out count set role h k =
-    let b = and_both (has_role (count_up 0 count) role) (not (has_role set role)) (sym (has_role-filter (λ r. not (has_role set r)) (count_up 0 count) role) ∙ h) in
+    let b = and_both (has_role (count_up 0 count) role) (not (has_role set role))
+    (sym (has_role-filter (λ r. not (has_role set r)) (count_up 0 count) role) ∙ h) in
     not_true (has_role set role) b.1 k
 
 -- a set below the count meets the other, or lies outside it
 pub common_or_outside : (count : ℕ) (set xs : List ℕ) → AreBelow count xs → HaveCommon xs set ⊎ IsWithin xs (outside count set)
 common_or_outside count set [] below = inr (λ r h. cc)
-common_or_outside count set (x ∷ xs) below = by_case (cases_in set x) (common_or_outside count set xs (λ r h. below r (or_right (eqb x r) (has_role xs r) h)))
+common_or_outside count set (x ∷ xs) below =
+    by_case (cases_in set x) (common_or_outside count set xs (λ r h. below r (or_right (eqb x r) (has_role xs r) h)))
   where
     own : IsIn (x ∷ xs) x
     own = rw (eq-eqb x x refl) refl
 
-    by_case : IsIn set x ⊎ IsOut set x → HaveCommon xs set ⊎ IsWithin xs (outside count set) → HaveCommon (x ∷ xs) set ⊎ IsWithin (x ∷ xs) (outside count set)
+    by_case : IsIn set x ⊎ IsOut set x → HaveCommon xs set ⊎ IsWithin xs (outside count set) → HaveCommon (x ∷ xs) set
+        ⊎ IsWithin (x ∷ xs) (outside count set)
     by_case (inl held) rest = inl (x, own, held)
     by_case (inr out) (inl c) = inl (c.0, or_right (eqb x c.0) (has_role xs c.0) c.1, c.2)
     by_case (inr out) (inr w) = inr within
@@ -60,7 +65,8 @@ common_or_outside count set (x ∷ xs) below = by_case (cases_in set x) (common_
             by_head false e k = w r k
 
 -- each hit meets the set, or one lies outside it
-pub hits_or_outside : (count : ℕ) (set : List ℕ) (hits : List (List ℕ)) → Each (AreBelow count) hits → HasHits set hits ⊎ Some_of (λ hit. IsWithin hit (outside count set)) hits
+pub hits_or_outside : (count : ℕ) (set : List ℕ) (hits : List (List ℕ)) → Each (AreBelow count) hits → HasHits set hits
+    ⊎ Some_of (λ hit. IsWithin hit (outside count set)) hits
 hits_or_outside count set [] b = inl tt
 hits_or_outside count set (hit ∷ hits) b = by_case (common_or_outside count set hit b.0) (hits_or_outside count set hits b.1)
   where
@@ -71,7 +77,8 @@ hits_or_outside count set (hit ∷ hits) b = by_case (common_or_outside count se
     by_case (inl c) (inr s) = inr (inr s)
 
 -- one user whose hit lies outside is covered
-pub covered_at : (count : ℕ) (set : List ℕ) (needs : List Need) (i : ℕ) (need : Need) → slice_get needs i ≡ Some need → Some_of (λ hit. IsWithin hit (outside count set)) need.hits → Covers (barrier count set) needs
+pub covered_at : (count : ℕ) (set : List ℕ) (needs : List Need) (i : ℕ) (need : Need) → slice_get needs i ≡ Some need
+    → Some_of (λ hit. IsWithin hit (outside count set)) need.hits → Covers (barrier count set) needs
 covered_at count set needs i need is within = record {
   to = λ k. i;
   apart = λ j k l m e. omega arith;
@@ -79,7 +86,11 @@ covered_at count set needs i need is within = record {
     need,
     is,
     subst (λ n. CoversNeed n need) (first k x e) (record {
-      hits = (some_weaker (λ hit. IsWithin hit (outside count set)) (λ other. IsWithin (less_roles other need.lacks) (outside count set)) (λ other w r m. w r (less_in other need.lacks r m)) need.hits within, tt);
+      hits = (
+        some_weaker (λ hit. IsWithin hit (outside count set)) (λ other. IsWithin (less_roles other need.lacks) (outside count set))
+            (λ other w r m. w r (less_in other need.lacks r m)) need.hits within,
+        tt,
+      );
       lacks = λ r h. cc;
     }),
   );
@@ -99,7 +110,8 @@ pub record AreRolesBelow (rules : Rules) : Type 0 where
   pub hits : (rule : CanAssign) → IsOneOf rules.assign rule → (conjunct : Need) → IsOneOf (conjuncts rules.order (term_of rule.cond)) conjunct
       → Each (AreBelow (length rules.order.names)) conjunct.hits
 
-pub seniors_below : (order : Graph) → AreSeniors order → AreEdges (length order.names) order.edges → (role : ℕ) → role < length order.names → AreBelow (length order.names) (seniors_of order role)
+pub seniors_below : (order : Graph) → AreSeniors order → AreEdges (length order.names) order.edges → (role : ℕ) → role < length order.names
+    → AreBelow (length order.names) (seniors_of order role)
 seniors_below order same ends role l senior h = by_case (leads_from_below ((same role senior).0 h) (length order.names) ends)
   where
     by_case : (senior ≡ role) ⊎ (senior < length order.names) → senior < length order.names
@@ -109,13 +121,16 @@ seniors_below order same ends role l senior h = by_case (leads_from_below ((same
 abbrev pub AreHitsBelow : ℕ → Need → Type 0
 AreHitsBelow count need = Each (AreBelow count) need.hits
 
-pub with_below : (count : ℕ) (a : Need) (bs : List Need) → AreHitsBelow count a → Each (AreHitsBelow count) bs → Each (AreHitsBelow count) (join_with a bs)
+pub with_below : (count : ℕ) (a : Need) (bs : List Need) → AreHitsBelow count a → Each (AreHitsBelow count) bs
+    → Each (AreHitsBelow count) (join_with a bs)
 with_below count a [] h k = tt
 with_below count a (b ∷ bs) h k = (each_append (AreBelow count) a.hits b.hits h k.0, with_below count a bs h k.1)
 
-pub all_below : (count : ℕ) (xs bs : List Need) → Each (AreHitsBelow count) xs → Each (AreHitsBelow count) bs → Each (AreHitsBelow count) (join_all xs bs)
+pub all_below : (count : ℕ) (xs bs : List Need) → Each (AreHitsBelow count) xs → Each (AreHitsBelow count) bs
+    → Each (AreHitsBelow count) (join_all xs bs)
 all_below count [] bs h k = tt
-all_below count (a ∷ xs) bs h k = each_append (AreHitsBelow count) (join_with a bs) (join_all xs bs) (with_below count a bs h.0 k) (all_below count xs bs h.1 k)
+all_below count (a ∷ xs) bs h k =
+    each_append (AreHitsBelow count) (join_with a bs) (join_all xs bs) (with_below count a bs h.0 k) (all_below count xs bs h.1 k)
 
 pub conjuncts_below : (order : Graph) → AreSeniors order → AreEdges (length order.names) order.edges → (cond : Term) → IsKnown (length order.names) cond
     → Each (AreHitsBelow (length order.names)) (conjuncts order cond)
@@ -123,11 +138,14 @@ conjuncts_below order same ends any h = (tt, tt)
 conjuncts_below order same ends (has role) h = ((seniors_below order same ends role h, tt), tt)
 conjuncts_below order same ends (lacks role) h = (tt, tt)
 conjuncts_below order same ends (both left right) h =
-    all_below (length order.names) (conjuncts order left) (conjuncts order right) (conjuncts_below order same ends left h.0) (conjuncts_below order same ends right h.1)
+    all_below (length order.names) (conjuncts order left) (conjuncts order right) (conjuncts_below order same ends left h.0)
+    (conjuncts_below order same ends right h.1)
 conjuncts_below order same ends (either left right) h =
-    each_append (AreHitsBelow (length order.names)) (conjuncts order left) (conjuncts order right) (conjuncts_below order same ends left h.0) (conjuncts_below order same ends right h.1)
+    each_append (AreHitsBelow (length order.names)) (conjuncts order left) (conjuncts order right) (conjuncts_below order same ends left h.0)
+    (conjuncts_below order same ends right h.1)
 
-pub roles_below : (rules : Rules) → AreSeniors rules.order → AreEdges (length rules.order.names) rules.order.edges → IsPolicy rules → AreRolesBelow rules
+pub roles_below : (rules : Rules) → AreSeniors rules.order → AreEdges (length rules.order.names) rules.order.edges → IsPolicy rules
+    → AreRolesBelow rules
 roles_below rules same ends policy = record {
   admins = λ rule is. seniors_below rules.order same ends rule.admin (known rule is).admin;
   hits = λ rule is conjunct at. each_at (AreHitsBelow (length rules.order.names)) (conjuncts rules.order (term_of rule.cond)) at.0 conjunct
@@ -153,25 +171,31 @@ assign_covered rules profiles set ceiling below ob = by_place ob.target ob.need_
     IsThere t = Covers (barrier (length rules.order.names) set) (with_admin ob.pick t hit (slice_set (barrier (length rules.order.names) set) t ob.before))
 
     -- the need with its hits, and a hit of the administrator at itself
-    at_target : Some_of (λ hit. IsWithin hit (outside (length rules.order.names) set)) ob.before.hits → (pick : Pick) → IsPick pick 0 1 → Covers (barrier (length rules.order.names) set) (with_admin pick 0 hit (ob.before ∷ []))
+    at_target : Some_of (λ hit. IsWithin hit (outside (length rules.order.names) set)) ob.before.hits → (pick : Pick) → IsPick pick 0 1
+        → Covers (barrier (length rules.order.names) set) (with_admin pick 0 hit (ob.before ∷ []))
     at_target w itself is = covered_at (length rules.order.names) set (add_hit hit ob.before ∷ []) 0 (add_hit hit ob.before) refl (inr w)
     at_target w (other place) is = absurd (let l = is.0 in let n = is.1 in n (omega arith))
     at_target w fresh is = covered_at (length rules.order.names) set (ob.before ∷ record { hits = hit ∷ []; lacks = [] } ∷ []) 0 ob.before refl w
 
-    at_admin : IsWithin hit (outside (length rules.order.names) set) → (pick : Pick) → IsPick pick 0 1 → Covers (barrier (length rules.order.names) set) (with_admin pick 0 hit (ob.before ∷ []))
+    at_admin : IsWithin hit (outside (length rules.order.names) set) → (pick : Pick) → IsPick pick 0 1
+        → Covers (barrier (length rules.order.names) set) (with_admin pick 0 hit (ob.before ∷ []))
     at_admin w itself is = covered_at (length rules.order.names) set (add_hit hit ob.before ∷ []) 0 (add_hit hit ob.before) refl (inl w)
     at_admin w (other place) is = absurd (let l = is.0 in let n = is.1 in n (omega arith))
-    at_admin w fresh is = covered_at (length rules.order.names) set (ob.before ∷ record { hits = hit ∷ []; lacks = [] } ∷ []) 1 (record { hits = hit ∷ []; lacks = [] }) refl (inl w)
+    at_admin w fresh is =
+        covered_at (length rules.order.names) set (ob.before ∷ record { hits = hit ∷ []; lacks = [] } ∷ []) 1
+        (record { hits = hit ∷ []; lacks = [] }) refl (inl w)
 
     more : Need → List ℕ
     more need = join_roles need.lacks (join_roles ob.conjunct.lacks (barred rules.order ob.role rules.exclusive))
 
-    kept : Some_of (λ hit. IsWithin hit (outside (length rules.order.names) set)) ob.conjunct.hits → Some_of (λ hit. IsWithin hit (outside (length rules.order.names) set)) ob.before.hits
+    kept : Some_of (λ hit. IsWithin hit (outside (length rules.order.names) set)) ob.conjunct.hits
+        → Some_of (λ hit. IsWithin hit (outside (length rules.order.names) set)) ob.before.hits
     kept w =
         let made : Need = record { hits = filter (λ hit. not (has_role hit ob.role)) ob.need.hits ++ ob.conjunct.hits; lacks = more ob.need } in
         let same = (some_cond (has_role ob.need.lacks ob.role || is_barred rules.order ob.role rules.exclusive) made ob.before ob.before_is).1 in
         subst (λ (n : Need). Some_of (λ hit. IsWithin hit (outside (length rules.order.names) set)) n.hits) same
-        (some_right (λ hit. IsWithin hit (outside (length rules.order.names) set)) (filter (λ hit. not (has_role hit ob.role)) ob.need.hits) ob.conjunct.hits w)
+        (some_right (λ hit. IsWithin hit (outside (length rules.order.names) set))
+        (filter (λ hit. not (has_role hit ob.role)) ob.need.hits) ob.conjunct.hits w)
 
     role_out : wall ≡ ob.need → IsIn set ob.role → ⊥
     role_out e held = by_hit (subst (λ (n : Need). Some_of (λ hit. IsIn hit ob.role) n.hits) (sym e) ob.wanted)
@@ -182,9 +206,12 @@ assign_covered rules profiles set ceiling below ob = by_place ob.target ob.need_
 
     by_place : (t : ℕ) → slice_get (wall ∷ []) t ≡ Some ob.need → IsPick ob.pick t 1 → IsThere t
     by_place (suc t) e is = cc
-    by_place zero e is = by_admin (common_or_outside (length rules.order.names) set hit (below.admins ob.rule ob.is_rule)) (hits_or_outside (length rules.order.names) set ob.conjunct.hits (below.hits ob.rule ob.is_rule ob.conjunct ob.is_conjunct))
+    by_place zero e is =
+        by_admin (common_or_outside (length rules.order.names) set hit (below.admins ob.rule ob.is_rule))
+        (hits_or_outside (length rules.order.names) set ob.conjunct.hits (below.hits ob.rule ob.is_rule ob.conjunct ob.is_conjunct))
       where
-        by_admin : HaveCommon hit set ⊎ IsWithin hit (outside (length rules.order.names) set) → HasHits set ob.conjunct.hits ⊎ Some_of (λ hit. IsWithin hit (outside (length rules.order.names) set)) ob.conjunct.hits → IsThere 0
+        by_admin : HaveCommon hit set ⊎ IsWithin hit (outside (length rules.order.names) set) → HasHits set ob.conjunct.hits
+            ⊎ Some_of (λ hit. IsWithin hit (outside (length rules.order.names) set)) ob.conjunct.hits → IsThere 0
         by_admin (inr w) rest = at_admin w ob.pick is
         by_admin (inl c) (inr w) = at_target (kept w) ob.pick is
         by_admin (inl c) (inl h) =
@@ -192,7 +219,8 @@ assign_covered rules profiles set ceiling below ob = by_place ob.target ob.need_
             absurd (role_out same (ceiling.given ob.rule ob.is_rule c ob.conjunct ob.is_conjunct h ob.role ob.in_range))
 
 -- a place that is drawn is counted
-pub drawn_profile : (profiles : List Profile) (choice : List ℕ) (users : List (List ℕ)) → AreUsers profiles choice users → (i : ℕ) (set : List ℕ) → slice_get users i ≡ Some set
+pub drawn_profile : (profiles : List Profile) (choice : List ℕ) (users : List (List ℕ)) → AreUsers profiles choice users → (i : ℕ) (set : List ℕ)
+    → slice_get users i ≡ Some set
     → (place : ℕ) × (profile : Profile) × (slice_get profiles place ≡ Some profile) × (set ≡ profile.set) × (0 < times place choice)
 drawn_profile profiles [] [] are i set e = cc
 drawn_profile profiles [] (u ∷ us) are i set e = absurd are
@@ -209,15 +237,18 @@ drawn_profile profiles (p ∷ ps) (u ∷ us) are (suc i) set e =
     more true n l = omega arith
     more false n l = omega arith
 
-pub barrier_unmet : (rules : Rules) (profiles : List Profile) (set : List ℕ) → HasGains rules profiles set → (users : List (List ℕ)) → IsDrawn profiles users → Meets users (barrier (length rules.order.names) set) → ⊥
+pub barrier_unmet : (rules : Rules) (profiles : List Profile) (set : List ℕ) → HasGains rules profiles set → (users : List (List ℕ))
+    → IsDrawn profiles users → Meets users (barrier (length rules.order.names) set) → ⊥
 barrier_unmet rules profiles set ceiling users drawn f =
     let one = f.each 0 (record { hits = outside (length rules.order.names) set ∷ []; lacks = [] }) refl in
     let d = drawn_profile profiles drawn.choice users drawn.are_users (f.to 0) one.0 one.1 in
     let common = one.2.hits.0 in
     outside_out (length rules.order.names) set common.0 common.1
-    (ceiling.drawn d.1 (d.0, d.2) (λ none. let few = drawn.drawn.few d.0 d.1 0 d.2 none in let l = d.4 in omega (arith, few, l)) common.0 (subst (λ s. IsIn s common.0) d.3 common.2))
+    (ceiling.drawn d.1 (d.0, d.2) (λ none. let few = drawn.drawn.few d.0 d.1 0 d.2 none in let l = d.4 in omega (arith, few, l)) common.0
+    (subst (λ s. IsIn s common.0) d.3 common.2))
 
-pub weak_covered : (rules : Rules) (set : List ℕ) → (ob : WeakObligation rules (barrier (length rules.order.names) set)) → Covers (barrier (length rules.order.names) set) (weak_pre_image ob)
+pub weak_covered : (rules : Rules) (set : List ℕ) → (ob : WeakObligation rules (barrier (length rules.order.names) set))
+    → Covers (barrier (length rules.order.names) set) (weak_pre_image ob)
 weak_covered rules set ob = absurd (by_place ob.target ob.need_is)
   where
     wall : Need
@@ -231,7 +262,8 @@ weak_covered rules set ob = absurd (by_place ob.target ob.need_is)
 
 -- the list of barriers
 
-pub of_barriers : (count : ℕ) (set : List ℕ) (needs : List Need) → IsOneOf (barriers count set) needs → (barrier count set ≡ needs) × (barriers count set ≡ barrier count set ∷ [])
+pub of_barriers : (count : ℕ) (set : List ℕ) (needs : List Need) → IsOneOf (barriers count set) needs → (barrier count set ≡ needs)
+    × (barriers count set ≡ barrier count set ∷ [])
 of_barriers count set needs is = by_test (is_empty (outside count set)) refl is.0 is.1
   where
     by_test : (t : Bool) → is_empty (outside count set) ≡ t → (k : ℕ) → slice_get (cond t [] (barrier count set ∷ [])) k ≡ Some needs
@@ -241,20 +273,26 @@ of_barriers count set needs is = by_test (is_empty (outside count set)) refl is.
     by_test false e (suc k) h = cc
 
 pub barriers_closed : (rules : Rules) → AreSeniors rules.order → AreEdges (length rules.order.names) rules.order.edges → IsPolicy rules
-    → (profiles : List Profile) (set : List ℕ) → HasGains rules profiles set → (needs : List Need) → IsOneOf (barriers (length rules.order.names) set) needs
-    → (ob : Obligation) → IsOneOf (obligations rules needs) ob → (before : List Need) → pre_image rules needs ob ≡ Some before → IsCovered (barriers (length rules.order.names) set) before
+    → (profiles : List Profile) (set : List ℕ) → HasGains rules profiles set → (needs : List Need)
+    → IsOneOf (barriers (length rules.order.names) set) needs
+    → (ob : Obligation) → IsOneOf (obligations rules needs) ob → (before : List Need) → pre_image rules needs ob ≡ Some before
+    → IsCovered (barriers (length rules.order.names) set) before
 barriers_closed rules same ends policy profiles set gains needs is =
     let one = of_barriers count set needs is in
-    subst (λ n. (ob : Obligation) → IsOneOf (obligations rules n) ob → (before : List Need) → pre_image rules n ob ≡ Some before → IsCovered (barriers count set) before) one.0
+    subst (λ n. (ob : Obligation) → IsOneOf (obligations rules n) ob → (before : List Need) → pre_image rules n ob ≡ Some before
+    → IsCovered (barriers count set) before) one.0
     (λ ob at before e. rw one.1 (inl (by_parts before (in_parts rules same (barrier count set) ob at before e))))
   where
     count : ℕ
     count = length rules.order.names
 
-    by_parts : {ob : Obligation} (before : List Need) → IsAssigning rules (barrier count set) ob before ⊎ IsRevoking rules (barrier count set) ob before → Covers (barrier count set) before
-    by_parts before (inl p) = subst (Covers (barrier count set)) p.image (assign_covered rules profiles set gains (roles_below rules same ends policy) p.parts)
+    by_parts : {ob : Obligation} (before : List Need) → IsAssigning rules (barrier count set) ob before
+        ⊎ IsRevoking rules (barrier count set) ob before → Covers (barrier count set) before
+    by_parts before (inl p) =
+        subst (Covers (barrier count set)) p.image (assign_covered rules profiles set gains (roles_below rules same ends policy) p.parts)
     by_parts before (inr p) = subst (Covers (barrier count set)) p.image (weak_covered rules set p.parts)
 
-pub barriers_unmet : (rules : Rules) (profiles : List Profile) (set : List ℕ) → HasGains rules profiles set → (needs : List Need) → IsOneOf (barriers (length rules.order.names) set) needs → IsUnmet profiles needs
+pub barriers_unmet : (rules : Rules) (profiles : List Profile) (set : List ℕ) → HasGains rules profiles set → (needs : List Need)
+    → IsOneOf (barriers (length rules.order.names) set) needs → IsUnmet profiles needs
 barriers_unmet rules profiles set gains needs is users drawn met =
     barrier_unmet rules profiles set gains users drawn (subst (Meets users) (sym (of_barriers (length rules.order.names) set needs is).0) met)

@@ -75,7 +75,8 @@ both_ceiling names known = record {
     the_rule : CanAssign
     the_rule = record { admin = adm; cond = Lacks adm; range = only c }
 
-    given : (place : ℕ) (rule : CanAssign) (role : ℕ) → slice_get (the_rule ∷ []) place ≡ Some rule → IsInRange (mix_of names).order rule.range role → IsIn (adm ∷ c ∷ []) role
+    given : (place : ℕ) (rule : CanAssign) (role : ℕ) → slice_get (the_rule ∷ []) place ≡ Some rule
+        → IsInRange (mix_of names).order rule.range role → IsIn (adm ∷ c ∷ []) role
     given zero rule role at range =
         let same : the_rule ≡ rule = same_some the_rule rule at in
         let e : role ≡ c = is_c names role (subst (λ (r : CanAssign). IsInRange (mix_of names).order r.range role) (sym same) range) in
@@ -83,7 +84,8 @@ both_ceiling names known = record {
     given (suc place) rule role at range = cc
 
     has_adm : (other : List ℕ) → HasGains (mix_of names) one_admin other → IsIn other adm
-    has_adm other gains = gains.drawn (record { set = adm ∷ []; most = Some 1 }) (0, refl) (λ e. let none : 1 ≡ 0 = same_some 1 0 e in omega (arith, none)) adm refl
+    has_adm other gains =
+        gains.drawn (record { set = adm ∷ []; most = Some 1 }) (0, refl) (λ e. let none : 1 ≡ 0 = same_some 1 0 e in omega (arith, none)) adm refl
 
     nothing : IsOneOf (conjuncts (mix_of names).order (term_of (Lacks adm))) (record { hits = []; lacks = seniors_of (mix_of names).order adm })
     nothing = (0, rw lacks_adm refl)

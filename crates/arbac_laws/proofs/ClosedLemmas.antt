@@ -28,44 +28,59 @@ use Rattle.arbac_policy.specs.declared.act.ActKind.{ActKind}
 abbrev pub MeetsOne : List (List ℕ) → List (List Need) → Type 0
 MeetsOne users list = Some_of (λ one. Meets users one) list
 
-pub weak_back : (rules : Rules) → AreSeniors rules.order → (profiles : List Profile) (goal : List Term) (list : List (List Need)) → IsClosed rules profiles goal list
+pub weak_back : (rules : Rules) → AreSeniors rules.order → (profiles : List Profile) (goal : List Term) (list : List (List Need))
+    → IsClosed rules profiles goal list
     → (old new : List (List ℕ)) (admin target role : ℕ) → WeakStep user rules old old admin target role new → MeetsOne new list → MeetsOne old list
 weak_back rules same profiles goal list closed old new admin target role step met =
     let one = some_item (λ needs. Meets new needs) list met in by_case one.0 one.1 (before_weak_step rules same old new admin target role one.0 step one.2)
   where
-    by_case : (needs : List Need) → IsOneOf list needs → Meets old needs ⊎ ((ob : WeakObligation rules needs) × Meets old (weak_pre_image ob)) → MeetsOne old list
+    by_case : (needs : List Need) → IsOneOf list needs → Meets old needs ⊎ ((ob : WeakObligation rules needs) × Meets old (weak_pre_image ob))
+        → MeetsOne old list
     by_case needs is (inl m) = some_one_at (λ n. Meets old n) list needs is m
     by_case needs is (inr d) = cover_met old list (weak_pre_image d.0) (closed.revokes needs is d.0 (met_possible old (weak_pre_image d.0) d.1)) d.1
 
-pub assign_back : (rules : Rules) → AreSeniors rules.order → (profiles : List Profile) (goal : List Term) (list : List (List Need)) → IsClosed rules profiles goal list
-    → (old new : List (List ℕ)) (admin target role : ℕ) → AssignStep user rules old old admin target role new → MeetsOne new list → MeetsOne old list
+pub assign_back : (rules : Rules) → AreSeniors rules.order → (profiles : List Profile) (goal : List Term) (list : List (List Need))
+    → IsClosed rules profiles goal list
+    → (old new : List (List ℕ)) (admin target role : ℕ) → AssignStep user rules old old admin target role new → MeetsOne new list
+    → MeetsOne old list
 assign_back rules same profiles goal list closed old new admin target role step met =
     let one = some_item (λ needs. Meets new needs) list met in by_case one.0 one.1 (before_assign_step rules same old new admin target role one.0 step one.2)
   where
-    by_case : (needs : List Need) → IsOneOf list needs → Meets old needs ⊎ ((ob : AssignObligation rules needs) × Meets old (assign_pre_image ob)) → MeetsOne old list
+    by_case : (needs : List Need) → IsOneOf list needs → Meets old needs ⊎ ((ob : AssignObligation rules needs) × Meets old (assign_pre_image ob))
+        → MeetsOne old list
     by_case needs is (inl m) = some_one_at (λ n. Meets old n) list needs is m
     by_case needs is (inr d) = cover_met old list (assign_pre_image d.0) (closed.assigns needs is d.0 (met_possible old (assign_pre_image d.0) d.1)) d.1
 
-pub weaks_back : (rules : Rules) → AreSeniors rules.order → (profiles : List Profile) (goal : List Term) (list : List (List Need)) → IsClosed rules profiles goal list
-    → (old new : List (List ℕ)) (admin target : ℕ) (roles : List ℕ) → WeakSteps user rules old old admin target roles new → MeetsOne new list → MeetsOne old list
+pub weaks_back : (rules : Rules) → AreSeniors rules.order → (profiles : List Profile) (goal : List Term) (list : List (List Need))
+    → IsClosed rules profiles goal list
+    → (old new : List (List ℕ)) (admin target : ℕ) (roles : List ℕ) → WeakSteps user rules old old admin target roles new → MeetsOne new list
+    → MeetsOne old list
 weaks_back rules same profiles goal list closed old new admin target [] steps met = subst (λ n. MeetsOne n list) steps met
 weaks_back rules same profiles goal list closed old new admin target (role ∷ roles) steps met =
-    weak_back rules same profiles goal list closed old steps.0 admin target role steps.1 (weaks_back rules same profiles goal list closed steps.0 new admin target roles steps.2 met)
+    weak_back rules same profiles goal list closed old steps.0 admin target role steps.1
+    (weaks_back rules same profiles goal list closed steps.0 new admin target roles steps.2 met)
 
-pub step_back : (rules : Rules) → AreSeniors rules.order → (profiles : List Profile) (goal : List Term) (list : List (List Need)) → IsClosed rules profiles goal list
-    → (old new : List (List ℕ)) (kind : ActKind) (admin target role : ℕ) → KindStep kind user rules old old admin target role new → MeetsOne new list → MeetsOne old list
-step_back rules same profiles goal list closed old new Assign admin target role step met = assign_back rules same profiles goal list closed old new admin target role step met
-step_back rules same profiles goal list closed old new Weak admin target role step met = weak_back rules same profiles goal list closed old new admin target role step met
+pub step_back : (rules : Rules) → AreSeniors rules.order → (profiles : List Profile) (goal : List Term) (list : List (List Need))
+    → IsClosed rules profiles goal list
+    → (old new : List (List ℕ)) (kind : ActKind) (admin target role : ℕ) → KindStep kind user rules old old admin target role new
+    → MeetsOne new list → MeetsOne old list
+step_back rules same profiles goal list closed old new Assign admin target role step met =
+    assign_back rules same profiles goal list closed old new admin target role step met
+step_back rules same profiles goal list closed old new Weak admin target role step met =
+    weak_back rules same profiles goal list closed old new admin target role step met
 step_back rules same profiles goal list closed old new Strong admin target role step met =
     weaks_back rules same profiles goal list closed old new admin target (falling user rules.order step.set role) step.steps met
 
-pub run_back : (rules : Rules) → AreSeniors rules.order → (profiles : List Profile) (goal : List Term) (list : List (List Need)) → IsClosed rules profiles goal list
+pub run_back : (rules : Rules) → AreSeniors rules.order → (profiles : List Profile) (goal : List Term) (list : List (List Need))
+    → IsClosed rules profiles goal list
     → (old new : List (List ℕ)) (acts : List Act) → Run rules old acts new → MeetsOne new list → MeetsOne old list
 run_back rules same profiles goal list closed old new [] run met = subst (λ n. MeetsOne n list) run met
 run_back rules same profiles goal list closed old new (act ∷ acts) run met =
-    step_back rules same profiles goal list closed old run.0 act.kind act.admin act.target act.role run.1 (run_back rules same profiles goal list closed run.0 new acts run.2 met)
+    step_back rules same profiles goal list closed old run.0 act.kind act.admin act.target act.role run.1
+    (run_back rules same profiles goal list closed run.0 new acts run.2 met)
 
-pub not_reachable : (rules : Rules) → AreSeniors rules.order → (profiles : List Profile) (goal : List Term) (list : List (List Need)) → IsClosed rules profiles goal list
+pub not_reachable : (rules : Rules) → AreSeniors rules.order → (profiles : List Profile) (goal : List Term) (list : List (List Need))
+    → IsClosed rules profiles goal list
     → IsReachable rules profiles goal → ⊥
 not_reachable rules same profiles goal list closed r =
     let goals = some_item (λ needs. Meets r.end needs) (goal_requirements rules.order goal) (goal_met_needs rules.order same r.end goal r.met) in

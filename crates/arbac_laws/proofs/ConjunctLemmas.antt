@@ -23,13 +23,16 @@ pub are_seniors : (order : Graph) → AreEdges (length order.names) order.edges 
 are_seniors order ends role = in_seniors order role ends
 
 pub joined : (a b : Need) (set : List ℕ) → MeetsNeed a set → MeetsNeed b set → MeetsNeed (join_needs a b) set
-joined a b set m n = record { hits = each_append (λ hit. HaveCommon hit set) a.hits b.hits m.hits n.hits; lacks = apart_join a.lacks b.lacks set m.lacks n.lacks }
+joined a b set m n =
+    record { hits = each_append (λ hit. HaveCommon hit set) a.hits b.hits m.hits n.hits; lacks = apart_join a.lacks b.lacks set m.lacks n.lacks }
 
 pub first_met : (a b : Need) (set : List ℕ) → MeetsNeed (join_needs a b) set → MeetsNeed a set
-first_met a b set m = record { hits = each_left (λ hit. HaveCommon hit set) a.hits b.hits m.hits; lacks = λ q h. m.lacks q (in_join_left a.lacks b.lacks q h) }
+first_met a b set m =
+    record { hits = each_left (λ hit. HaveCommon hit set) a.hits b.hits m.hits; lacks = λ q h. m.lacks q (in_join_left a.lacks b.lacks q h) }
 
 pub second_met : (a b : Need) (set : List ℕ) → MeetsNeed (join_needs a b) set → MeetsNeed b set
-second_met a b set m = record { hits = each_right (λ hit. HaveCommon hit set) a.hits b.hits m.hits; lacks = λ q h. m.lacks q (in_join_right a.lacks b.lacks q h) }
+second_met a b set m =
+    record { hits = each_right (λ hit. HaveCommon hit set) a.hits b.hits m.hits; lacks = λ q h. m.lacks q (in_join_right a.lacks b.lacks q h) }
 
 -- one of the needs is met
 abbrev pub SomeMet : List ℕ → List Need → Type 0
@@ -59,13 +62,16 @@ all_parts set (a ∷ xs) bs h = by_side (some_cases (λ need. MeetsNeed need set
     by_side (inl k) rest = let r = with_parts set a bs k in (inl r.0, r.1)
     by_side (inr k) rest = let r = rest k in (inr r.0, r.1)
 
-pub member_common : (order : Graph) → AreSeniors order → (set : List ℕ) (role : ℕ) → IsMember order.edges set role → HaveCommon (seniors_of order role) set
+pub member_common : (order : Graph) → AreSeniors order → (set : List ℕ) (role : ℕ) → IsMember order.edges set role
+    → HaveCommon (seniors_of order role) set
 member_common order same set role m = (m.0, (same role m.0).1 m.2, m.1)
 
-pub common_member : (order : Graph) → AreSeniors order → (set : List ℕ) (role : ℕ) → HaveCommon (seniors_of order role) set → IsMember order.edges set role
+pub common_member : (order : Graph) → AreSeniors order → (set : List ℕ) (role : ℕ) → HaveCommon (seniors_of order role) set
+    → IsMember order.edges set role
 common_member order same set role c = (c.0, c.2, (same role c.0).0 c.1)
 
-pub conjunct_met : (order : Graph) → AreSeniors order → (set : List ℕ) (cond : Term) → Satisfies user order.edges set cond → SomeMet set (conjuncts order cond)
+pub conjunct_met : (order : Graph) → AreSeniors order → (set : List ℕ) (cond : Term) → Satisfies user order.edges set cond
+    → SomeMet set (conjuncts order cond)
 conjunct_met order same set any h = inl (record { hits = tt; lacks = λ q k held. cc })
 conjunct_met order same set (has role) h = inl (record { hits = (member_common order same set role h, tt); lacks = λ q k held. cc })
 conjunct_met order same set (lacks role) h = inl (record { hits = tt; lacks = λ q k held. h (common_member order same set role (q, k, held)) })
@@ -76,7 +82,8 @@ conjunct_met order same set (either left right) (inl h) =
 conjunct_met order same set (either left right) (inr h) =
     some_right (λ need. MeetsNeed need set) (conjuncts order left) (conjuncts order right) (conjunct_met order same set right h)
 
-pub met_conjunct : (order : Graph) → AreSeniors order → (set : List ℕ) (cond : Term) → SomeMet set (conjuncts order cond) → Satisfies user order.edges set cond
+pub met_conjunct : (order : Graph) → AreSeniors order → (set : List ℕ) (cond : Term) → SomeMet set (conjuncts order cond)
+    → Satisfies user order.edges set cond
 met_conjunct order same set any h = tt
 met_conjunct order same set (has role) (inl h) = common_member order same set role h.hits.0
 met_conjunct order same set (has role) (inr h) = absurd h
@@ -86,10 +93,12 @@ met_conjunct order same set (both left right) h =
     let r = all_parts set (conjuncts order left) (conjuncts order right) h in
     (met_conjunct order same set left r.0, met_conjunct order same set right r.1)
 met_conjunct order same set (either left right) h =
-    by_side (some_cases (λ need. MeetsNeed need set) (conjuncts order left) (conjuncts order right) h) (met_conjunct order same set left) (met_conjunct order same set right)
+    by_side (some_cases (λ need. MeetsNeed need set) (conjuncts order left) (conjuncts order right) h) (met_conjunct order same set left)
+    (met_conjunct order same set right)
   where
     by_side : SomeMet set (conjuncts order left) ⊎ SomeMet set (conjuncts order right)
-        → (SomeMet set (conjuncts order left) → Satisfies user order.edges set left) → (SomeMet set (conjuncts order right) → Satisfies user order.edges set right)
+        → (SomeMet set (conjuncts order left) → Satisfies user order.edges set left)
+        → (SomeMet set (conjuncts order right) → Satisfies user order.edges set right)
         → Satisfies user order.edges set left ⊎ Satisfies user order.edges set right
     by_side (inl k) f g = inl (f k)
     by_side (inr k) f g = inr (g k)

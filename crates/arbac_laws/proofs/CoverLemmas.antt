@@ -27,8 +27,10 @@ covered_met a b set c m = record {
 
 pub covers_need : (a b c : Need) → CoversNeed a b → CoversNeed b c → CoversNeed a c
 covers_need a b c f g = record {
-  hits = each_weaker (λ hit. Some_of (λ other. IsWithin (less_roles other b.lacks) hit) b.hits) (λ hit. Some_of (λ third. IsWithin (less_roles third c.lacks) hit) c.hits)
-      (λ hit some. some_each (λ other. IsWithin (less_roles other b.lacks) hit) (λ other. Some_of (λ third. IsWithin (less_roles third c.lacks) other) c.hits)
+  hits = each_weaker (λ hit. Some_of (λ other. IsWithin (less_roles other b.lacks) hit) b.hits)
+      (λ hit. Some_of (λ third. IsWithin (less_roles third c.lacks) hit) c.hits)
+      (λ hit some. some_each (λ other. IsWithin (less_roles other b.lacks) hit)
+      (λ other. Some_of (λ third. IsWithin (less_roles third c.lacks) other) c.hits)
       (Some_of (λ third. IsWithin (less_roles third c.lacks) hit) c.hits)
       (λ other within thirds. some_weaker (λ third. IsWithin (less_roles third c.lacks) other) (λ third. IsWithin (less_roles third c.lacks) hit)
       (λ third inside role h. within role (in_less other b.lacks role (inside role h) (outside role (less_out third c.lacks role h))))
@@ -54,10 +56,12 @@ met_covering users a b f g = compose CoversNeed MeetsNeed MeetsNeed a b users co
 pub covers_itself : (a : Need) → CoversNeed a a
 covers_itself a = record { hits = each_own a.hits a.hits (λ hit i. i); lacks = λ role h. h }
   where
-    each_own : (some all : List (List ℕ)) → ((hit : List ℕ) → Some_of (λ h. h ≡ hit) some → Some_of (λ h. h ≡ hit) all) → Each (λ hit. Some_of (λ other. IsWithin (less_roles other a.lacks) hit) all) some
+    each_own : (some all : List (List ℕ)) → ((hit : List ℕ) → Some_of (λ h. h ≡ hit) some → Some_of (λ h. h ≡ hit) all)
+        → Each (λ hit. Some_of (λ other. IsWithin (less_roles other a.lacks) hit) all) some
     each_own [] all f = tt
     each_own (hit ∷ hits) all f = (
-      some_weaker (λ h. h ≡ hit) (λ other. IsWithin (less_roles other a.lacks) hit) (λ other e role k. subst (λ h. IsIn h role) e (less_in other a.lacks role k)) all (f hit (inl refl)),
+      some_weaker (λ h. h ≡ hit) (λ other. IsWithin (less_roles other a.lacks) hit)
+          (λ other e role k. subst (λ h. IsIn h role) e (less_in other a.lacks role k)) all (f hit (inl refl)),
       each_own hits all (λ h i. f h (inr i)),
     )
 
@@ -76,5 +80,7 @@ met_possible users needs f = each_of (λ need. Each (λ hit. (role : ℕ) × IsI
         by_case (inr n) = n
 
 -- a population that meets what is covered meets one of the list
-pub cover_met : (users : List (List ℕ)) (list : List (List Need)) (needs : List Need) → IsCovered list needs → Meets users needs → Some_of (λ one. Meets users one) list
-cover_met users list needs covered met = some_weaker (λ one. Covers one needs) (λ one. Meets users one) (λ one c. met_covering users one needs c met) list covered
+pub cover_met : (users : List (List ℕ)) (list : List (List Need)) (needs : List Need) → IsCovered list needs → Meets users needs
+    → Some_of (λ one. Meets users one) list
+cover_met users list needs covered met =
+    some_weaker (λ one. Covers one needs) (λ one. Meets users one) (λ one c. met_covering users one needs c met) list covered

@@ -1,5 +1,6 @@
 -- What a population meets before and after one user's set is exchanged.
-use Rattle.std.proofs.Common.{ℕ, ◌≡◌, ◌<◌, List, [], ◌∷◌, ◌++◌, length, Some, arith, zero, suc, sym, ◌∙◌, ap, eqb, cond, subst, refl, inl, inr}
+use Rattle.std.proofs.Common.{ℕ, ◌≡◌, ◌<◌, List, [], ◌∷◌, ◌++◌, length, Some, arith, zero, suc, sym, ◌∙◌, ap, eqb, cond, subst}
+use Rattle.std.proofs.Common.{refl, inl, inr}
 use Rattle.std.specs.Prelude.{slice_get, slice_set, ◌⊎◌}
 use Rattle.std.proofs.lemmas.Bool.{eq-eqb, ne_eqb}
 use Rattle.role_order.specs.Roles.{HaveCommon}
@@ -14,7 +15,8 @@ length_change [] i f = refl
 length_change (x ∷ xs) zero f = refl
 length_change (x ∷ xs) (suc i) f = ap suc (length_change xs i f)
 
-pub get_change_same : (needs : List Need) (i : ℕ) (f : Need → Need) (x : Need) → slice_get needs i ≡ Some x → slice_get (change_at i f needs) i ≡ Some (f x)
+pub get_change_same : (needs : List Need) (i : ℕ) (f : Need → Need) (x : Need) → slice_get needs i ≡ Some x
+    → slice_get (change_at i f needs) i ≡ Some (f x)
 get_change_same [] i f x e = cc
 get_change_same (y ∷ ys) zero f x e = let same : y ≡ x = cc in ap (λ z. Some (f z)) same
 get_change_same (y ∷ ys) (suc i) f x e = get_change_same ys i f x e
@@ -34,7 +36,8 @@ pub record Peeled (users : List (List ℕ)) (needs : List Need) (hit : List ℕ)
   pub by_is : slice_get users admin ≡ Some by
   pub common : HaveCommon hit by
 
-pub peel_hit : (users : List (List ℕ)) (needs : List Need) (hit : List ℕ) (j : ℕ) → j < length needs → (f : Meets users (change_at j (add_hit hit) needs)) → Peeled users needs hit (f.to j) f.to
+pub peel_hit : (users : List (List ℕ)) (needs : List Need) (hit : List ℕ) (j : ℕ) → j < length needs
+    → (f : Meets users (change_at j (add_hit hit) needs)) → Peeled users needs hit (f.to j) f.to
 peel_hit users needs hit j l f = record {
   map = record {
     to = f.to;
@@ -53,13 +56,16 @@ peel_hit users needs hit j l f = record {
     user : (y : List ℕ) × (slice_get users (f.to j) ≡ Some y) × MeetsNeed (add_hit hit need.0) y
     user = f.each j (add_hit hit need.0) (get_change_same needs j (add_hit hit) need.0 need.1)
 
-    by_place : (i : ℕ) (x : Need) → slice_get needs i ≡ Some x → (j ≡ i) ⊎ (j ≡ i → ⊥) → (y : List ℕ) × (slice_get users (f.to i) ≡ Some y) × MeetsNeed x y
+    by_place : (i : ℕ) (x : Need) → slice_get needs i ≡ Some x → (j ≡ i) ⊎ (j ≡ i → ⊥) → (y : List ℕ)
+        × (slice_get users (f.to i) ≡ Some y)
+        × MeetsNeed x y
     by_place i x at (inr else') = f.each i x (get_change_other needs j i (add_hit hit) else' ∙ at)
     by_place i x at (inl here) =
         let one = f.each i (add_hit hit x) (ap (λ k. slice_get (change_at k (add_hit hit) needs) i) here ∙ get_change_same needs i (add_hit hit) x at) in
         (one.0, one.1, record { hits = one.2.hits.1; lacks = one.2.lacks })
 
-pub peel_fresh : (users : List (List ℕ)) (needs : List Need) (hit : List ℕ) → (f : Meets users (needs ++ record { hits = hit ∷ []; lacks = [] } ∷ [])) → Peeled users needs hit (f.to (length needs)) f.to
+pub peel_fresh : (users : List (List ℕ)) (needs : List Need) (hit : List ℕ)
+    → (f : Meets users (needs ++ record { hits = hit ∷ []; lacks = [] } ∷ [])) → Peeled users needs hit (f.to (length needs)) f.to
 peel_fresh users needs hit f = record {
   map = record {
     to = f.to;
@@ -81,14 +87,16 @@ peel_fresh users needs hit f = record {
     longer : (a : ℕ) → a < length needs → a < length (needs ++ last ∷ [])
     longer a l = let e = length_more needs last in omega (arith, e)
 
-pub peel : (users : List (List ℕ)) (needs : List Need) (hit : List ℕ) (pick : Pick) (target : ℕ) → target < length needs → IsPick pick target (length needs)
+pub peel : (users : List (List ℕ)) (needs : List Need) (hit : List ℕ) (pick : Pick) (target : ℕ) → target < length needs
+    → IsPick pick target (length needs)
     → (f : Meets users (with_admin pick target hit needs)) → Peeled users needs hit (f.to (admin_place pick target (length needs))) f.to
 peel users needs hit itself target l is f = peel_hit users needs hit target l f
 peel users needs hit (other place) target l is f = peel_hit users needs hit place is.0 f
 peel users needs hit fresh target l is f = peel_fresh users needs hit f
 
 -- one user's need was exchanged for another: who meets the needs, and then has a set that meets the first, meets the first needs
-pub exchanged : (users : List (List ℕ)) (needs : List Need) (t : ℕ) (need before : Need) → slice_get needs t ≡ Some need → (f : Meets users (slice_set needs t before))
+pub exchanged : (users : List (List ℕ)) (needs : List Need) (t : ℕ) (need before : Need) → slice_get needs t ≡ Some need
+    → (f : Meets users (slice_set needs t before))
     → (new : List ℕ) → MeetsNeed need new → (m : Meets (slice_set users (f.to t) new) needs) × ((i : ℕ) → m.to i ≡ f.to i)
 exchanged users needs t need before at f new meets = (
   record {
@@ -102,11 +110,13 @@ exchanged users needs t need before at f new meets = (
     target : (y : List ℕ) × (slice_get users (f.to t) ≡ Some y) × MeetsNeed before y
     target = f.each t before (get_set_same needs t before (get_below needs t need at))
 
-    by_place : (i : ℕ) (x : Need) → slice_get needs i ≡ Some x → (t ≡ i) ⊎ (t ≡ i → ⊥) → (y : List ℕ) × (slice_get (slice_set users (f.to t) new) (f.to i) ≡ Some y) × MeetsNeed x y
+    by_place : (i : ℕ) (x : Need) → slice_get needs i ≡ Some x → (t ≡ i) ⊎ (t ≡ i → ⊥) → (y : List ℕ)
+        × (slice_get (slice_set users (f.to t) new) (f.to i) ≡ Some y) × MeetsNeed x y
     by_place i x is (inl here) =
         let same : need ≡ x = cc in (
           new,
-          ap (λ k. slice_get (slice_set users (f.to t) new) (f.to k)) (sym here) ∙ get_set_same users (f.to t) new (get_below users (f.to t) target.0 target.1),
+          ap (λ k. slice_get (slice_set users (f.to t) new) (f.to k)) (sym here)
+              ∙ get_set_same users (f.to t) new (get_below users (f.to t) target.0 target.1),
           subst (λ n. MeetsNeed n new) same meets,
         )
     by_place i x is (inr else') =
@@ -140,9 +150,11 @@ put_target users needs p t set new before set_is f l goes meets = (
   λ i. refl,
 )
   where
-    by_place : (i : ℕ) (x : Need) → slice_get (slice_set needs t before) i ≡ Some x → (t ≡ i) ⊎ (t ≡ i → ⊥) → (y : List ℕ) × (slice_get users (f.to i) ≡ Some y) × MeetsNeed x y
+    by_place : (i : ℕ) (x : Need) → slice_get (slice_set needs t before) i ≡ Some x → (t ≡ i) ⊎ (t ≡ i → ⊥) → (y : List ℕ)
+        × (slice_get users (f.to i) ≡ Some y) × MeetsNeed x y
     by_place i x is (inl here) =
-        let there : slice_get (slice_set needs t before) i ≡ Some before = ap (λ k. slice_get (slice_set needs t before) k) (sym here) ∙ get_set_same needs t before l in
+        let there : slice_get (slice_set needs t before) i ≡ Some before = ap (λ k. slice_get (slice_set needs t before) k) (sym here)
+        ∙ get_set_same needs t before l in
         let same : before ≡ x = cc in
         (set, ap (λ k. slice_get users (f.to k)) (sym here) ∙ ap (slice_get users) goes ∙ set_is, subst (λ n. MeetsNeed n set) same meets)
     by_place i x is (inr else') =
@@ -153,7 +165,8 @@ put_target users needs p t set new before set_is f l goes meets = (
         moved : slice_get needs i ≡ Some x → p ≡ f.to i → ⊥
         moved there e = else' (f.apart t i l (get_below needs i x there) (goes ∙ e))
 
-pub put_hit : (users : List (List ℕ)) (needs : List Need) (hit : List ℕ) (j : ℕ) (by : List ℕ) (f : Meets users needs) → slice_get users (f.to j) ≡ Some by → HaveCommon hit by
+pub put_hit : (users : List (List ℕ)) (needs : List Need) (hit : List ℕ) (j : ℕ) (by : List ℕ) (f : Meets users needs)
+    → slice_get users (f.to j) ≡ Some by → HaveCommon hit by
     → Meets users (change_at j (add_hit hit) needs)
 put_hit users needs hit j by f by_is common = record {
   to = f.to;
@@ -161,7 +174,8 @@ put_hit users needs hit j by f by_is common = record {
   each = λ i x is. by_place i x is (cases_eq j i);
 }
   where
-    by_place : (i : ℕ) (x : Need) → slice_get (change_at j (add_hit hit) needs) i ≡ Some x → (j ≡ i) ⊎ (j ≡ i → ⊥) → (y : List ℕ) × (slice_get users (f.to i) ≡ Some y) × MeetsNeed x y
+    by_place : (i : ℕ) (x : Need) → slice_get (change_at j (add_hit hit) needs) i ≡ Some x → (j ≡ i) ⊎ (j ≡ i → ⊥) → (y : List ℕ)
+        × (slice_get users (f.to i) ≡ Some y) × MeetsNeed x y
     by_place i x is (inr else') = f.each i x (sym (get_change_other needs j i (add_hit hit) else') ∙ is)
     by_place i x is (inl here) =
         let old = get_there needs i (rw (length_change needs j (add_hit hit)) at (get_below (change_at j (add_hit hit) needs) i x is)) in
@@ -173,7 +187,8 @@ put_hit users needs hit j by f by_is common = record {
         let who : by ≡ one.0 = cc in
         (one.0, one.1, subst (λ n. MeetsNeed n one.0) same (record { hits = (subst (λ s. HaveCommon hit s) who common, one.2.hits); lacks = one.2.lacks }))
 
-pub put_fresh : (users : List (List ℕ)) (needs : List Need) (hit : List ℕ) (a : ℕ) (by : List ℕ) (f : Meets users needs) → slice_get users a ≡ Some by → HaveCommon hit by
+pub put_fresh : (users : List (List ℕ)) (needs : List Need) (hit : List ℕ) (a : ℕ) (by : List ℕ) (f : Meets users needs)
+    → slice_get users a ≡ Some by → HaveCommon hit by
     → ((i : ℕ) → i < length needs → f.to i ≡ a → ⊥) → Meets users (needs ++ record { hits = hit ∷ []; lacks = [] } ∷ [])
 put_fresh users needs hit a by f by_is common none = record {
   to = to;
@@ -217,7 +232,8 @@ put_fresh users needs hit a by f by_is common none = record {
         (one.0, ap (slice_get users) (to_old i n) ∙ one.1, one.2)
 
 -- whoever the administrator is, one of the three has him
-pub put_admin : (users : List (List ℕ)) (needs : List Need) (hit : List ℕ) (t a : ℕ) (by : List ℕ) (f : Meets users needs) → slice_get users a ≡ Some by → HaveCommon hit by
+pub put_admin : (users : List (List ℕ)) (needs : List Need) (hit : List ℕ) (t a : ℕ) (by : List ℕ) (f : Meets users needs)
+    → slice_get users a ≡ Some by → HaveCommon hit by
     → (pick : Pick) × IsPick pick t (length needs) × Meets users (with_admin pick t hit needs)
 put_admin users needs hit t a by f by_is common = by_found (find_place f.to a (length needs))
   where

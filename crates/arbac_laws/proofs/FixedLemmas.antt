@@ -13,7 +13,8 @@ use Rattle.role_order.proofs.OrderLemmas.{set_order}
 use Rattle.list_words.proofs.OrderLemmas.{not_both}
 use Rattle.arbac_laws.specs.Needs.{Covers, CoversNeed, IsPossible, IsPossibleNeed, Need}
 use Rattle.arbac_laws.specs.Orders.{need_before}
-use Rattle.arbac_laws.specs.NormalForms.{IsNormal, IsNormalNeed, bare_hits, insert_by, insert_once, is_impossible, is_less, least_hits, normal_form, normal_need, sort_by, sort_once}
+use Rattle.arbac_laws.specs.NormalForms.{IsNormal, IsNormalNeed, bare_hits, insert_by, insert_once, is_impossible, is_less, least_hits, normal_form}
+use Rattle.arbac_laws.specs.NormalForms.{normal_need, sort_by, sort_once}
 use Rattle.arbac_laws.proofs.NormalLemmas.{less_parts, normal_both, not_possible, possible_not}
 use Rattle.list_words.proofs.GetLemmas.{some_cond}
 use Rattle.arbac_laws.proofs.RoleLemmas.{cases_in, in_less}
@@ -107,7 +108,8 @@ pub need_fixed : (need : Need) → IsNormalNeed need → normal_need need ≡ ne
 need_fixed need n = ap (λ (h : List (List ℕ)). let v : Need = record { hits = h; lacks = need.lacks } in v) hits
   where
     hits : sort_once set_before (least_hits (bare_hits need)) ≡ need.hits
-    hits = ap (λ h. sort_once set_before (least_hits h)) (bare_already need n) ∙ ap (sort_once set_before) (least_already need.hits n.least) ∙ rising_once set_before set_order need.hits n.sorted
+    hits = ap (λ h. sort_once set_before (least_hits h)) (bare_already need n) ∙ ap (sort_once set_before) (least_already need.hits n.least)
+        ∙ rising_once set_before set_order need.hits n.sorted
 
 -- a requirement
 
@@ -118,11 +120,13 @@ needs_fixed (x ∷ xs) h = ap (λ v. v ∷ map normal_need xs) (need_fixed x h.0
 pub normal_possible : (need : Need) → IsNormalNeed need → IsPossibleNeed need
 normal_possible need n = go need.hits n.filled n.bare
   where
-    out : (role : ℕ) (hit : List ℕ) → AreApart need.lacks hit → IsIn hit role → IsIn need.lacks role ⊎ IsOut need.lacks role → IsOut need.lacks role
+    out : (role : ℕ) (hit : List ℕ) → AreApart need.lacks hit → IsIn hit role → IsIn need.lacks role ⊎ IsOut need.lacks role
+        → IsOut need.lacks role
     out role hit apart held (inl lacked) = absurd (apart role lacked held)
     out role hit apart held (inr free) = free
 
-    go : (hits : List (List ℕ)) → Each (λ hit. (role : ℕ) × IsIn hit role) hits → Each (λ hit. AreApart need.lacks hit) hits → Each (λ hit. (role : ℕ) × IsIn hit role × IsOut need.lacks role) hits
+    go : (hits : List (List ℕ)) → Each (λ hit. (role : ℕ) × IsIn hit role) hits → Each (λ hit. AreApart need.lacks hit) hits
+        → Each (λ hit. (role : ℕ) × IsIn hit role × IsOut need.lacks role) hits
     go [] f b = tt
     go (hit ∷ hits) f b = ((f.0.0, f.0.1, out f.0.0 hit b.0 f.0.1 (cases_in need.lacks f.0.0)), go hits f.1 b.1)
 

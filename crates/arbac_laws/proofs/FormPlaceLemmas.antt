@@ -1,5 +1,6 @@
 -- Where users stand in a normal form: a stable sort gives places, and there are no others.
-use Rattle.std.proofs.Common.{ℕ, ◌≡◌, ◌<◌, ◌≤◌, ◌+◌, not, List, [], ◌∷◌, length, map, get_or, Some, arith, zero, suc, sym, ◌∙◌, ap, Bool, true, false, cond, subst, refl, inl, inr}
+use Rattle.std.proofs.Common.{ℕ, ◌≡◌, ◌<◌, ◌≤◌, ◌+◌, not, List, [], ◌∷◌, length, map, get_or, Some, arith, zero, suc, sym}
+use Rattle.std.proofs.Common.{◌∙◌, ap, Bool, true, false, cond, subst, refl, inl, inr}
 use Rattle.std.specs.Prelude.{◌⊎◌, slice_get}
 use Rattle.std.proofs.lemmas.List.{ext_get_or}
 use Rattle.list_words.specs.Lists.{Each}
@@ -65,7 +66,8 @@ get_spot before x (y ∷ ys) = by_test (before y x) (get_spot before x ys)
     by_test true rest = rest
     by_test false rest = refl
 
-pub get_pushed : {A : Type 0} (before : A → A → Bool) (x : A) (ys : List A) (p : ℕ) → slice_get (insert_by before x ys) (pushed (spot before x ys) p) ≡ slice_get ys p
+pub get_pushed : {A : Type 0} (before : A → A → Bool) (x : A) (ys : List A) (p : ℕ)
+    → slice_get (insert_by before x ys) (pushed (spot before x ys) p) ≡ slice_get ys p
 get_pushed before x [] p = refl
 get_pushed before x (y ∷ ys) p = by_test (before y x) p (λ q. get_pushed before x ys q)
   where
@@ -76,7 +78,8 @@ get_pushed before x (y ∷ ys) p = by_test (before y x) p (λ q. get_pushed befo
     by_test false p rest = refl
 
 -- it is put before those that equal it
-pub spot_first : {A : Type 0} (before : A → A → Bool) → IsTotalOrder before → (x : A) (ys : List A) (p : ℕ) → slice_get ys p ≡ Some x → spot before x ys ≤ p
+pub spot_first : {A : Type 0} (before : A → A → Bool) → IsTotalOrder before → (x : A) (ys : List A) (p : ℕ) → slice_get ys p ≡ Some x
+    → spot before x ys ≤ p
 spot_first before o x [] p e = cc
 spot_first before o x (y ∷ ys) zero e =
     let same : y ≡ x = same_some y x e in
@@ -120,11 +123,14 @@ one_more_stands {A} {B} f before o x xs s = record { apart = apart; each = each;
     apart (suc i) zero l m e = absurd (pushed_away here (to i) (sym e))
     apart (suc i) (suc j) l m e = ap suc (s.apart i j (omega arith) (omega arith) (pushed_apart here (to i) (to j) e))
 
-    each : (i : ℕ) (a : A) → slice_get (x ∷ xs) i ≡ Some a → (b : B) × (slice_get (insert_by before (f x) ys) (goes f before (x ∷ xs) i) ≡ Some b) × (f a ≡ b)
+    each : (i : ℕ) (a : A) → slice_get (x ∷ xs) i ≡ Some a → (b : B)
+        × (slice_get (insert_by before (f x) ys) (goes f before (x ∷ xs) i) ≡ Some b)
+        × (f a ≡ b)
     each zero a is = (f x, get_spot before (f x) ys, ap f (sym (same_some x a is)))
     each (suc i) a is = let one = s.each i a is in (one.0, get_pushed before (f x) ys (to i) ∙ one.1, one.2)
 
-    stable : (i j : ℕ) (a b : A) → i < j → slice_get (x ∷ xs) i ≡ Some a → slice_get (x ∷ xs) j ≡ Some b → f a ≡ f b → goes f before (x ∷ xs) i < goes f before (x ∷ xs) j
+    stable : (i j : ℕ) (a b : A) → i < j → slice_get (x ∷ xs) i ≡ Some a → slice_get (x ∷ xs) j ≡ Some b → f a ≡ f b
+        → goes f before (x ∷ xs) i < goes f before (x ∷ xs) j
     stable zero zero a b l m n e = absurd (omega arith)
     stable (suc i) zero a b l m n e = absurd (omega arith)
     stable zero (suc j) a b l m n e =
@@ -132,7 +138,8 @@ one_more_stands {A} {B} f before o x xs s = record { apart = apart; each = each;
         pushed_behind here (to j) (spot_first before o (f x) ys (to j) (one.1 ∙ ap Some (sym (ap f (same_some x a m) ∙ e ∙ one.2))))
     stable (suc i) (suc j) a b l m n e = pushed_rises here (to i) (to j) (s.stable i j a b (omega arith) m n e)
 
-pub sort_stands : {A B : Type 0} (f : A → B) (before : B → B → Bool) → IsTotalOrder before → (xs : List A) → Stands f xs (sort_by before (map f xs)) (goes f before xs)
+pub sort_stands : {A B : Type 0} (f : A → B) (before : B → B → Bool) → IsTotalOrder before → (xs : List A)
+    → Stands f xs (sort_by before (map f xs)) (goes f before xs)
 sort_stands f before o [] = record { apart = λ i j l m e. e; each = λ i a is. cc; stable = λ i j a b l m n e. cc }
 sort_stands f before o (x ∷ xs) = one_more_stands f before o x xs (sort_stands f before o xs)
 
@@ -140,7 +147,8 @@ pub insert_long : {A : Type 0} (before : A → A → Bool) (x : A) (ys : List A)
 insert_long before x [] = refl
 insert_long before x (y ∷ ys) = by_test (before y x) (insert_long before x ys)
   where
-    by_test : (t : Bool) → length (insert_by before x ys) ≡ suc (length ys) → length (cond t (y ∷ insert_by before x ys) (x ∷ y ∷ ys)) ≡ suc (suc (length ys))
+    by_test : (t : Bool) → length (insert_by before x ys) ≡ suc (length ys) → length (cond t (y ∷ insert_by before x ys) (x ∷ y ∷ ys)) ≡ suc
+        (suc (length ys))
     by_test true rest = ap suc rest
     by_test false rest = refl
 
@@ -155,7 +163,8 @@ places_of needs = told (goes normal_need need_before needs) (length needs)
 
 pub are_places : (needs : List Need) → AreFormPlaces needs (sort_by need_before (map normal_need needs)) (places_of needs)
 are_places needs = record {
-  at = told_places (λ need one. normal_need need ≡ one) needs (sort_by need_before (map normal_need needs)) (record { to = to; apart = s.apart; each = s.each });
+  at = told_places (λ need one. normal_need need ≡ one) needs (sort_by need_before (map normal_need needs))
+      (record { to = to; apart = s.apart; each = s.each });
   all = sort_long normal_need need_before needs;
   stable = λ i j a b l m n e.
       let there = get-told to (length needs) i (get_below needs i a m) in
@@ -171,11 +180,15 @@ are_places needs = record {
     s = sort_stands normal_need need_before need_order needs
 
 pub form_places : (needs form : List Need) → normal_form needs ≡ Some form → (places : List ℕ) × AreFormPlaces needs form places
-form_places needs form e =
-    (places_of needs, subst (λ f. AreFormPlaces needs f (places_of needs)) (some_cond (is_impossible needs) (sort_by need_before (map normal_need needs)) form e).1 (are_places needs))
+form_places needs form e = (
+  places_of needs,
+  subst (λ f. AreFormPlaces needs f (places_of needs))
+      (some_cond (is_impossible needs) (sort_by need_before (map normal_need needs)) form e).1 (are_places needs),
+)
 
 -- each place of the form is one of them
-pub is_place : (needs form : List Need) (places : List ℕ) → AreFormPlaces needs form places → (p : ℕ) → p < length form → (k : ℕ) × (k < length needs) × (get_or places k 0 ≡ p)
+pub is_place : (needs form : List Need) (places : List ℕ) → AreFormPlaces needs form places → (p : ℕ) → p < length form → (k : ℕ)
+    × (k < length needs) × (get_or places k 0 ≡ p)
 is_place needs form places s p l = by_found (find_place (λ i. get_or places i 0) p (length needs))
   where
     R : Need → Need → Type 0
@@ -245,7 +258,8 @@ one_form_place needs form a b s t = ext_get_or 0 a b (s.at.long ∙ sym t.at.lon
     same zero i l m = absurd (omega arith)
     same (suc n) i l m = by_order (compare (get_or a i 0) (get_or b i 0)) (λ k h. same n k (omega (arith, h, l)) (omega (arith, h, m)))
       where
-        by_order : (get_or a i 0 < get_or b i 0) ⊎ ((get_or a i 0 ≡ get_or b i 0) ⊎ (get_or b i 0 < get_or a i 0)) → ((k : ℕ) → k < i → get_or a k 0 ≡ get_or b k 0) → get_or a i 0 ≡ get_or b i 0
+        by_order : (get_or a i 0 < get_or b i 0) ⊎ ((get_or a i 0 ≡ get_or b i 0) ⊎ (get_or b i 0 < get_or a i 0))
+            → ((k : ℕ) → k < i → get_or a k 0 ≡ get_or b k 0) → get_or a i 0 ≡ get_or b i 0
         by_order (inl less) before = absurd (not_earlier needs form a b s t i m before less)
         by_order (inr (inl e)) before = e
         by_order (inr (inr less)) before = absurd (not_earlier needs form b a t s i m (λ k h. sym (before k h)) less)
@@ -256,12 +270,14 @@ pub count_parts : {A : Type 0} (q : A → Bool) (xs : List A) → count q xs + c
 count_parts q [] = refl
 count_parts q (x ∷ xs) = by_test (q x) (count_parts q xs)
   where
-    by_test : (t : Bool) → count q xs + count (λ x. not (q x)) xs ≡ length xs → (cond t 1 0 + count q xs) + (cond (not t) 1 0 + count (λ x. not (q x)) xs) ≡ suc (length xs)
+    by_test : (t : Bool) → count q xs + count (λ x. not (q x)) xs ≡ length xs
+        → (cond t 1 0 + count q xs) + (cond (not t) 1 0 + count (λ x. not (q x)) xs) ≡ suc (length xs)
     by_test true rest = omega (arith, rest)
     by_test false rest = omega (arith, rest)
 
 -- the form has as many users of a kind as the requirement does
-pub same_count : (needs form : List Need) (places : List ℕ) → AreFormPlaces needs form places → (q : Need → Bool) → count (λ need. q (normal_need need)) needs ≡ count q form
+pub same_count : (needs form : List Need) (places : List ℕ) → AreFormPlaces needs form places → (q : Need → Bool)
+    → count (λ need. q (normal_need need)) needs ≡ count q form
 same_count needs form places s q =
     let yes' = as_many q in
     let no' = as_many (λ one. not (q one)) in
@@ -274,7 +290,8 @@ same_count needs form places s q =
     as_many p = counted (λ need one. normal_need need ≡ one) (λ need. p (normal_need need)) p (λ need one e h. subst (λ v. p v ≡ true) e h) needs form
         (from_places (λ need one. normal_need need ≡ one) needs form places s.at)
 
-pub sorted_is_form : (needs form : List Need) (places : List ℕ) → IsPossible needs → AreSorted need_before form → AreFormPlaces needs form places → normal_form needs ≡ Some form
+pub sorted_is_form : (needs form : List Need) (places : List ℕ) → IsPossible needs → AreSorted need_before form → AreFormPlaces needs form places
+    → normal_form needs ≡ Some form
 sorted_is_form needs form places possible sorted s = rw (possible_not needs possible) (ap Some same)
   where
     any_each : (xs : List Need) → Each (λ need. Unit {0}) xs
@@ -282,6 +299,8 @@ sorted_is_form needs form places possible sorted s = rw (possible_not needs poss
     any_each (x ∷ xs) = (tt, any_each xs)
 
     same : sort_by need_before (map normal_need needs) ≡ form
-    same = sorted_same (λ need. Unit {0}) need_before need_order (sort_by need_before (map normal_need needs)) form (any_each (sort_by need_before (map normal_need needs))) (any_each form)
+    same = sorted_same (λ need. Unit {0}) need_before need_order (sort_by need_before (map normal_need needs)) form
+        (any_each (sort_by need_before (map normal_need needs))) (any_each form)
         (sort_sorted need_before need_order (map normal_need needs)) sorted (λ w u.
-        sym (same_count needs (sort_by need_before (map normal_need needs)) (places_of needs) (are_places needs) (is_same need_before w)) ∙ same_count needs form places s (is_same need_before w))
+        sym (same_count needs (sort_by need_before (map normal_need needs)) (places_of needs) (are_places needs) (is_same need_before w))
+        ∙ same_count needs form places s (is_same need_before w))

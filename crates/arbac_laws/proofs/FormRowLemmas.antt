@@ -10,7 +10,8 @@ use Rattle.arbac_laws.proofs.FormPlaceLemmas.{are_places}
 pub untidy_form : normal_form (untidy ∷ hits adm ∷ hits_without c d ∷ []) ≡ Some (hits adm ∷ hits_without c d ∷ hits_without c d ∷ [])
 untidy_form = refl
 
-pub untidy_moved : AreFormPlaces (untidy ∷ hits adm ∷ hits_without c d ∷ []) (hits adm ∷ hits_without c d ∷ hits_without c d ∷ []) (1 ∷ 0 ∷ 2 ∷ [])
+pub untidy_moved : AreFormPlaces (untidy ∷ hits adm ∷ hits_without c d ∷ []) (hits adm ∷ hits_without c d ∷ hits_without c d ∷ [])
+    (1 ∷ 0 ∷ 2 ∷ [])
 untidy_moved = are_places (untidy ∷ hits adm ∷ hits_without c d ∷ [])
 
 pub empty_impossible : normal_form (record { hits = [] ∷ []; lacks = [] } ∷ []) ≡ None

@@ -20,11 +20,13 @@ MetAt {A} R users to xs = (i : ℕ) (x : A) → slice_get xs i ≡ Some x → (s
 abbrev pub IsWay : List (List ℕ) → (ℕ → ℕ) → ℕ → List Need → Type 0
 IsWay users to n needs = (length needs ≡ n) × MetAt MeetsNeed users to needs
 
-pub some_before : (P : Need → Type 0) (Q : List Need → Type 0) (R : List Need → Type 0) → ((a : Need) (rest : List Need) → P a → Q rest → R (a ∷ rest)) → (xs : List Need) (rests : List (List Need))
+pub some_before : (P : Need → Type 0) (Q : List Need → Type 0) (R : List Need → Type 0)
+    → ((a : Need) (rest : List Need) → P a → Q rest → R (a ∷ rest)) → (xs : List Need) (rests : List (List Need))
     → Some_of P xs → Some_of Q rests → Some_of R (before_each xs rests)
 some_before P Q R f [] rests h k = h
 some_before P Q R f (a ∷ xs) rests (inl h) k =
-    some_left R (map (λ rest. a ∷ rest) rests) (before_each xs rests) (some_map (λ rest. a ∷ rest) R rests (some_weaker Q (λ rest. R (a ∷ rest)) (λ rest q. f a rest h q) rests k))
+    some_left R (map (λ rest. a ∷ rest) rests) (before_each xs rests)
+    (some_map (λ rest. a ∷ rest) R rests (some_weaker Q (λ rest. R (a ∷ rest)) (λ rest q. f a rest h q) rests k))
 some_before P Q R f (a ∷ xs) rests (inr h) k =
     some_right R (map (λ rest. a ∷ rest) rests) (before_each xs rests) (some_before P Q R f xs rests h k)
 
@@ -38,17 +40,20 @@ goal_ways order same users to (cond ∷ goal) h =
     (conjuncts order cond) (goal_requirements order goal) (conjunct_met order same one.0 cond one.2)
     (goal_ways order same users (λ i. to (suc i)) goal (λ i x e. h (suc i) x e))
   where
-    both_at : (a : Need) (rest : List Need) (set : List ℕ) → slice_get users (to 0) ≡ Some set → MeetsNeed a set → MetAt MeetsNeed users (λ i. to (suc i)) rest → MetAt MeetsNeed users to (a ∷ rest)
+    both_at : (a : Need) (rest : List Need) (set : List ℕ) → slice_get users (to 0) ≡ Some set → MeetsNeed a set
+        → MetAt MeetsNeed users (λ i. to (suc i)) rest → MetAt MeetsNeed users to (a ∷ rest)
     both_at a rest set is m w zero x e = let e' : Some a ≡ Some x = e in let same : a ≡ x = cc in (set, is, subst (λ n. MeetsNeed n set) same m)
     both_at a rest set is m w (suc i) x e = w i x e
 
-pub goal_met_needs : (order : Graph) → AreSeniors order → (users : List (List ℕ)) (goal : List Term) → GoalMet order.edges goal users → Some_of (λ needs. Meets users needs) (goal_requirements order goal)
+pub goal_met_needs : (order : Graph) → AreSeniors order → (users : List (List ℕ)) (goal : List Term) → GoalMet order.edges goal users
+    → Some_of (λ needs. Meets users needs) (goal_requirements order goal)
 goal_met_needs order same users goal g =
     some_weaker (IsWay users g.to (length goal)) (λ needs. Meets users needs)
     (λ needs w. record { to = g.to; apart = λ i j li lj e. g.apart i j (subst (λ n. i < n) w.0 li) (subst (λ n. j < n) w.0 lj) e; each = w.1 })
     (goal_requirements order goal) (goal_ways order same users g.to goal g.each)
 
-pub before_some : (P : Need → Type 0) (Q : List Need → Type 0) (R : List Need → Type 0) → ((a : Need) (rest : List Need) → R (a ∷ rest) → P a × Q rest) → (xs : List Need) (rests : List (List Need))
+pub before_some : (P : Need → Type 0) (Q : List Need → Type 0) (R : List Need → Type 0)
+    → ((a : Need) (rest : List Need) → R (a ∷ rest) → P a × Q rest) → (xs : List Need) (rests : List (List Need))
     → Some_of R (before_each xs rests) → Some_of P xs × Some_of Q rests
 before_some P Q R f [] rests h = absurd h
 before_some P Q R f (a ∷ xs) rests h = by_side (some_cases R (map (λ rest. a ∷ rest) rests) (before_each xs rests) h) (before_some P Q R f xs rests)
@@ -58,7 +63,8 @@ before_some P Q R f (a ∷ xs) rests h = by_side (some_cases R (map (λ rest. a 
     parts (rest ∷ list) (inl k) = let r = f a rest k in (r.0, inl r.1)
     parts (rest ∷ list) (inr k) = let r = parts list k in (r.0, inr r.1)
 
-    by_side : Some_of R (map (λ rest. a ∷ rest) rests) ⊎ Some_of R (before_each xs rests) → (Some_of R (before_each xs rests) → Some_of P xs × Some_of Q rests) → Some_of P (a ∷ xs) × Some_of Q rests
+    by_side : Some_of R (map (λ rest. a ∷ rest) rests) ⊎ Some_of R (before_each xs rests)
+        → (Some_of R (before_each xs rests) → Some_of P xs × Some_of Q rests) → Some_of P (a ∷ xs) × Some_of Q rests
     by_side (inl k) again = let r = parts rests (map_some (λ rest. a ∷ rest) R rests k) in (inl r.0, r.1)
     by_side (inr k) again = let r = again k in (inr r.0, r.1)
 
@@ -77,13 +83,16 @@ ways_goal order same users to (cond ∷ goal) h i x e =
     shorter : (rest : List Need) → suc (length rest) ≡ suc (length goal) → length rest ≡ length goal
     shorter rest e = omega (arith, e)
 
-    parts : (list : List Need) → Some_of (IsMetAt users (to 0)) list → (set : List ℕ) × (slice_get users (to 0) ≡ Some set) × Some_of (λ need. MeetsNeed need set) list
+    parts : (list : List Need) → Some_of (IsMetAt users (to 0)) list → (set : List ℕ) × (slice_get users (to 0) ≡ Some set)
+        × Some_of (λ need. MeetsNeed need set) list
     parts [] k = absurd k
     parts (a ∷ list) (inl k) = (k.0, k.1, inl k.2)
     parts (a ∷ list) (inr k) = let r = parts list k in (r.0, r.1, inr r.2)
 
-    by_place : (i : ℕ) (x : Term) → slice_get (cond ∷ goal) i ≡ Some x → Some_of (IsMetAt users (to 0)) (conjuncts order cond) × Some_of (IsWay users (λ i. to (suc i)) (length goal)) (goal_requirements order goal)
-        → (Some_of (IsWay users (λ i. to (suc i)) (length goal)) (goal_requirements order goal) → MetAt (λ cond set. Satisfies user order.edges set cond) users (λ i. to (suc i)) goal)
+    by_place : (i : ℕ) (x : Term) → slice_get (cond ∷ goal) i ≡ Some x → Some_of (IsMetAt users (to 0)) (conjuncts order cond)
+        × Some_of (IsWay users (λ i. to (suc i)) (length goal)) (goal_requirements order goal)
+        → (Some_of (IsWay users (λ i. to (suc i)) (length goal)) (goal_requirements order goal)
+        → MetAt (λ cond set. Satisfies user order.edges set cond) users (λ i. to (suc i)) goal)
         → (set : List ℕ) × (slice_get users (to i) ≡ Some set) × Satisfies user order.edges set x
     by_place zero x e p again =
         let r = parts (conjuncts order cond) p.0 in
@@ -96,12 +105,14 @@ pub ways_long : (order : Graph) (goal : List Term) → Each (λ needs. length ne
 ways_long order [] = (refl, tt)
 ways_long order (cond ∷ goal) = each_before (conjuncts order cond) (goal_requirements order goal) (ways_long order goal)
   where
-    each_map : (a : Need) (rests more : List (List Need)) → Each (λ needs. length needs ≡ length goal) rests → Each (λ needs. length needs ≡ length (cond ∷ goal)) more
+    each_map : (a : Need) (rests more : List (List Need)) → Each (λ needs. length needs ≡ length goal) rests
+        → Each (λ needs. length needs ≡ length (cond ∷ goal)) more
         → Each (λ needs. length needs ≡ length (cond ∷ goal)) (map (λ rest. a ∷ rest) rests ++ more)
     each_map a [] more h k = k
     each_map a (rest ∷ rests) more h k = (ap suc h.0, each_map a rests more h.1 k)
 
-    each_before : (xs : List Need) (rests : List (List Need)) → Each (λ needs. length needs ≡ length goal) rests → Each (λ needs. length needs ≡ length (cond ∷ goal)) (before_each xs rests)
+    each_before : (xs : List Need) (rests : List (List Need)) → Each (λ needs. length needs ≡ length goal) rests
+        → Each (λ needs. length needs ≡ length (cond ∷ goal)) (before_each xs rests)
     each_before [] rests h = tt
     each_before (a ∷ xs) rests h = each_map a rests (before_each xs rests) h (each_before xs rests h)
 
@@ -119,5 +130,6 @@ goal_both order same goal users = (
         record {
           to = one.2.1.to;
           apart = λ i j li lj e. one.2.1.apart i j (subst (λ n. i < n) (sym long) li) (subst (λ n. j < n) (sym long) lj) e;
-          each = ways_goal order same users one.2.1.to goal (some_one_at (IsWay users one.2.1.to (length goal)) (goal_requirements order goal) one.0 one.1 (long, one.2.1.each));
+          each = ways_goal order same users one.2.1.to goal
+              (some_one_at (IsWay users one.2.1.to (length goal)) (goal_requirements order goal) one.0 one.1 (long, one.2.1.each));
         }

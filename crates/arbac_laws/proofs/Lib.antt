@@ -6,6 +6,7 @@ pub mod TargetLemmas
 pub mod StepLemmas
 pub mod GoalLemmas
 pub mod ClosedLemmas
+pub mod ServeLemmas
 pub mod FlatLemmas
 pub mod ObligationLemmas
 pub mod OrderLemmas
@@ -16,11 +17,18 @@ pub mod NormalLemmas
 pub mod FixedLemmas
 pub mod FormPlaceLemmas
 pub mod BarrierLemmas
+pub mod GainLemmas
 pub mod RowLemmas
 pub mod SetsLemmas
+pub mod ListingLemmas
+pub mod RelevanceLemmas
 pub mod RecordedLemmas
 pub mod PairLemmas
 pub mod ListingRowLemmas
 pub mod FormRowLemmas
 pub mod BarrierRowLemmas
+pub mod GainRowLemmas
 pub mod RecordedRowLemmas
+pub mod ReachedRowLemmas
+pub mod ServingRowLemmas
+pub mod RelevanceRowLemmas

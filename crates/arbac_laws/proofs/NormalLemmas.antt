@@ -1,5 +1,6 @@
 -- The normal form covers the needs and is covered by them.
-use Rattle.std.proofs.Common.{ℕ, ◌≡◌, ◌<◌, ◌≤◌, ◌+◌, List, [], ◌∷◌, map, Some, None, arith, zero, suc, sym, ap, Bool, true, false, not, cond, subst, refl, inl, inr}
+use Rattle.std.proofs.Common.{ℕ, ◌≡◌, ◌<◌, ◌≤◌, ◌+◌, List, [], ◌∷◌, map, Some, None, arith, zero, suc, sym, ap, Bool, true, false}
+use Rattle.std.proofs.Common.{not, cond, subst, refl, inl, inr}
 use Rattle.std.specs.Prelude.{◌↔◌}
 use Rattle.std.proofs.lemmas.Bool.{eq-eqb}
 use Rattle.std.specs.List.{list_any}
@@ -7,7 +8,8 @@ use Rattle.list_words.proofs.TestLemmas.{and_both, both_true, or_none, not_false
 use Rattle.list_words.specs.Lists.{Each, Some_of}
 use Rattle.role_order.specs.Roles.{AreApart, IsIn, IsOut, IsWithin, has_role, is_within, less_roles}
 use Rattle.arbac_laws.specs.Needs.{Covers, CoversNeed, IsCovered, IsPossible, IsPossibleNeed, Need}
-use Rattle.arbac_laws.specs.NormalForms.{AreSets, IsNormal, IsNormalNeed, bare_hits, insert_by, is_impossible, is_less, least_hits, normal_form, normal_need, sort_by}
+use Rattle.arbac_laws.specs.NormalForms.{AreSets, IsNormal, IsNormalNeed, bare_hits, insert_by, is_impossible, is_less, least_hits, normal_form}
+use Rattle.arbac_laws.specs.NormalForms.{normal_need, sort_by}
 use Rattle.role_order.specs.Orders.{set_before}
 use Rattle.arbac_laws.specs.Orders.{need_before}
 use Rattle.arbac_laws.specs.PreImages.{is_empty}
@@ -35,7 +37,8 @@ pub insert_into : (x : Need) (ys : List Need) → Covers (x ∷ ys) (insert_by n
 insert_into x [] = embeds_itself CoversNeed covers_itself (x ∷ [])
 insert_into x (y ∷ ys) = by_test (need_before y x) (insert_into x ys)
   where
-    by_test : (t : Bool) → Covers (x ∷ ys) (insert_by need_before x ys) → Covers (x ∷ y ∷ ys) (cond t (y ∷ insert_by need_before x ys) (x ∷ y ∷ ys))
+    by_test : (t : Bool) → Covers (x ∷ ys) (insert_by need_before x ys)
+        → Covers (x ∷ y ∷ ys) (cond t (y ∷ insert_by need_before x ys) (x ∷ y ∷ ys))
     by_test false rest = embeds_itself CoversNeed covers_itself (x ∷ y ∷ ys)
     by_test true rest = covers_transitive (x ∷ y ∷ ys) (y ∷ x ∷ ys) (y ∷ insert_by need_before x ys) (embeds_swap CoversNeed covers_itself x y ys)
         (embeds_front CoversNeed y y (x ∷ ys) (insert_by need_before x ys) (covers_itself y) rest)
@@ -44,7 +47,8 @@ pub insert_out : (x : Need) (ys : List Need) → Covers (insert_by need_before x
 insert_out x [] = embeds_itself CoversNeed covers_itself (x ∷ [])
 insert_out x (y ∷ ys) = by_test (need_before y x) (insert_out x ys)
   where
-    by_test : (t : Bool) → Covers (insert_by need_before x ys) (x ∷ ys) → Covers (cond t (y ∷ insert_by need_before x ys) (x ∷ y ∷ ys)) (x ∷ y ∷ ys)
+    by_test : (t : Bool) → Covers (insert_by need_before x ys) (x ∷ ys) → Covers (cond t (y ∷ insert_by need_before x ys) (x ∷ y ∷ ys))
+        (x ∷ y ∷ ys)
     by_test false rest = embeds_itself CoversNeed covers_itself (x ∷ y ∷ ys)
     by_test true rest = covers_transitive (y ∷ insert_by need_before x ys) (y ∷ x ∷ ys) (x ∷ y ∷ ys)
         (embeds_front CoversNeed y y (insert_by need_before x ys) (x ∷ ys) (covers_itself y) rest) (embeds_swap CoversNeed covers_itself y x ys)
@@ -71,7 +75,8 @@ count_less p q h (x ∷ xs) = let r = count_less p q h xs in by_tests (p x) (q x
     by_tests true true h l = omega arith
     by_tests true false h l = let k = h refl in cc
 
-pub count_fewer : {A : Type 0} (p q : A → Bool) → ((x : A) → p x ≡ true → q x ≡ true) → (xs : List A) → Some_of (λ x. (q x ≡ true) × (p x ≡ false)) xs → count p xs < count q xs
+pub count_fewer : {A : Type 0} (p q : A → Bool) → ((x : A) → p x ≡ true → q x ≡ true) → (xs : List A)
+    → Some_of (λ x. (q x ≡ true) × (p x ≡ false)) xs → count p xs < count q xs
 count_fewer p q h [] s = absurd s
 count_fewer p q h (x ∷ xs) (inl s) = let a = s.0 in let b = s.1 in let r = count_less p q h xs in rw (a, b) (omega (arith, r))
 count_fewer p q h (x ∷ xs) (inr s) = let r = count_fewer p q h xs s in by_tests (p x) (q x) (h x) r
@@ -89,7 +94,8 @@ less_parts k h e =
 pub less_of : (k h : List ℕ) → IsWithin k h → (IsWithin h k → ⊥) → is_less k h ≡ true
 less_of k h w n = both_true (is_within k h) (not (is_within h k)) (is_within_of k h w) (rw (not_false (is_within h k) (λ e. n (within_is h k e))) refl)
 
-pub fewer_below : (hits : List (List ℕ)) (h k : List ℕ) → Some_of (λ (v : List ℕ). v ≡ k) hits → is_less k h ≡ true → count (λ j. is_less j k) hits < count (λ j. is_less j h) hits
+pub fewer_below : (hits : List (List ℕ)) (h k : List ℕ) → Some_of (λ (v : List ℕ). v ≡ k) hits → is_less k h ≡ true
+    → count (λ j. is_less j k) hits < count (λ j. is_less j h) hits
 fewer_below hits h k i e =
     let p = less_parts k h e in
     count_fewer (λ j. is_less j k) (λ j. is_less j h)
@@ -97,39 +103,48 @@ fewer_below hits h k i e =
     (one_some (λ j. (is_less j h ≡ true) × (is_less j k ≡ false)) hits k i (e, not_false (is_less k k) (λ f. let q = less_parts k k f in q.1 q.0)))
 
 -- each hit contains a least one
-pub least_below : (n : ℕ) (hits : List (List ℕ)) (h : List ℕ) → count (λ j. is_less j h) hits ≤ n → Some_of (λ (k : List ℕ). k ≡ h) hits → Some_of (λ k. IsWithin k h) (least_hits hits)
+pub least_below : (n : ℕ) (hits : List (List ℕ)) (h : List ℕ) → count (λ j. is_less j h) hits ≤ n → Some_of (λ (k : List ℕ). k ≡ h) hits
+    → Some_of (λ k. IsWithin k h) (least_hits hits)
 least_below zero hits h l i = by_test (list_any (λ other. is_less other h) hits) refl
   where
     by_test : (t : Bool) → list_any (λ other. is_less other h) hits ≡ t → Some_of (λ k. IsWithin k h) (least_hits hits)
     by_test false e = in_filter (λ k. IsWithin k h) (λ hit. not (list_any (λ other. is_less other hit) hits)) hits
         (one_some (λ k. IsWithin k h × (not (list_any (λ other. is_less other k) hits) ≡ true)) hits h i ((λ r m. m), rw e refl))
     by_test true e =
-        let k = some_one (λ other. is_less other h ≡ true) hits (any_of (λ other. is_less other h ≡ true) (λ other. is_less other h) (λ other f. f) hits e) in
+        let k = some_one (λ other. is_less other h ≡ true) hits
+        (any_of (λ other. is_less other h ≡ true) (λ other. is_less other h) (λ other f. f) hits e) in
         let f = fewer_below hits h k.0 k.1 k.2 in absurd (omega (arith, f, l))
 least_below (suc n) hits h l i = by_test (list_any (λ other. is_less other h) hits) refl (λ k m j. least_below n hits k m j)
   where
     by_test : (t : Bool) → list_any (λ other. is_less other h) hits ≡ t
-        → ((k : List ℕ) → count (λ j. is_less j k) hits ≤ n → Some_of (λ (v : List ℕ). v ≡ k) hits → Some_of (λ v. IsWithin v k) (least_hits hits)) → Some_of (λ k. IsWithin k h) (least_hits hits)
+        → ((k : List ℕ) → count (λ j. is_less j k) hits ≤ n → Some_of (λ (v : List ℕ). v ≡ k) hits
+        → Some_of (λ v. IsWithin v k) (least_hits hits))
+        → Some_of (λ k. IsWithin k h) (least_hits hits)
     by_test false e again = in_filter (λ k. IsWithin k h) (λ hit. not (list_any (λ other. is_less other hit) hits)) hits
         (one_some (λ k. IsWithin k h × (not (list_any (λ other. is_less other k) hits) ≡ true)) hits h i ((λ r m. m), rw e refl))
     by_test true e again =
-        let k = some_one (λ other. is_less other h ≡ true) hits (any_of (λ other. is_less other h ≡ true) (λ other. is_less other h) (λ other f. f) hits e) in
+        let k = some_one (λ other. is_less other h ≡ true) hits
+        (any_of (λ other. is_less other h ≡ true) (λ other. is_less other h) (λ other f. f) hits e) in
         let f = fewer_below hits h k.0 k.1 k.2 in
         let p = less_parts k.0 h k.2 in
         some_weaker (λ v. IsWithin v k.0) (λ v. IsWithin v h) (λ v w r m. p.0 r (w r m)) (least_hits hits) (again k.0 (omega (arith, f, l)) k.1)
 
-pub bare_in : (need : Need) (h : List ℕ) → Some_of (λ (k : List ℕ). k ≡ h) need.hits → Some_of (λ (k : List ℕ). k ≡ less_roles h need.lacks) (bare_hits need)
+pub bare_in : (need : Need) (h : List ℕ) → Some_of (λ (k : List ℕ). k ≡ h) need.hits → Some_of (λ (k : List ℕ). k ≡ less_roles h need.lacks)
+    (bare_hits need)
 bare_in need h i = go need.hits i
   where
-    go : (hits : List (List ℕ)) → Some_of (λ (k : List ℕ). k ≡ h) hits → Some_of (λ (k : List ℕ). k ≡ less_roles h need.lacks) (map (λ hit. less_roles hit need.lacks) hits)
+    go : (hits : List (List ℕ)) → Some_of (λ (k : List ℕ). k ≡ h) hits → Some_of (λ (k : List ℕ). k ≡ less_roles h need.lacks)
+        (map (λ hit. less_roles hit need.lacks) hits)
     go [] i = i
     go (k ∷ hits) (inl e) = inl (ap (λ (v : List ℕ). less_roles v need.lacks) e)
     go (k ∷ hits) (inr i) = inr (go hits i)
 
-pub in_bare : (need : Need) (b : List ℕ) → Some_of (λ (k : List ℕ). k ≡ b) (bare_hits need) → Some_of (λ (k : List ℕ). less_roles k need.lacks ≡ b) need.hits
+pub in_bare : (need : Need) (b : List ℕ) → Some_of (λ (k : List ℕ). k ≡ b) (bare_hits need)
+    → Some_of (λ (k : List ℕ). less_roles k need.lacks ≡ b) need.hits
 in_bare need b i = go need.hits i
   where
-    go : (hits : List (List ℕ)) → Some_of (λ (k : List ℕ). k ≡ b) (map (λ hit. less_roles hit need.lacks) hits) → Some_of (λ (k : List ℕ). less_roles k need.lacks ≡ b) hits
+    go : (hits : List (List ℕ)) → Some_of (λ (k : List ℕ). k ≡ b) (map (λ hit. less_roles hit need.lacks) hits)
+        → Some_of (λ (k : List ℕ). less_roles k need.lacks ≡ b) hits
     go [] i = i
     go (k ∷ hits) (inl e) = inl e
     go (k ∷ hits) (inr i) = inr (go hits i)
@@ -139,10 +154,12 @@ pub normal_hit : (need : Need) (h : List ℕ) → Some_of (λ (k : List ℕ). k 
     → Some_of (λ (k : List ℕ). k ≡ h) (bare_hits need) × (list_any (λ other. is_less other h) (bare_hits need) ≡ false)
 normal_hit need h i =
     let r = some_one (λ k. (k ≡ h) × (not (list_any (λ other. is_less other k) (bare_hits need)) ≡ true)) (bare_hits need)
-    (filter_in (λ (k : List ℕ). k ≡ h) (λ hit. not (list_any (λ other. is_less other hit) (bare_hits need))) (bare_hits need) (sort_in set_before set_order (λ (k : List ℕ). k ≡ h) (least_hits (bare_hits need)) i)) in (
+    (filter_in (λ (k : List ℕ). k ≡ h) (λ hit. not (list_any (λ other. is_less other hit) (bare_hits need))) (bare_hits need)
+    (sort_in set_before set_order (λ (k : List ℕ). k ≡ h) (least_hits (bare_hits need)) i)) in (
       one_some (λ (k : List ℕ). k ≡ h) (bare_hits need) r.0 r.1 r.2.0,
       not_false (list_any (λ other. is_less other h) (bare_hits need)) (λ e.
-          not_true (list_any (λ other. is_less other r.0) (bare_hits need)) r.2.1 (subst (λ v. list_any (λ other. is_less other v) (bare_hits need) ≡ true) (sym r.2.0) e)),
+          not_true (list_any (λ other. is_less other r.0) (bare_hits need)) r.2.1
+          (subst (λ v. list_any (λ other. is_less other v) (bare_hits need) ≡ true) (sym r.2.0) e)),
     )
 
 pub need_normal : (need : Need) → CoversNeed need (normal_need need)
@@ -150,7 +167,8 @@ need_normal need = record {
   hits = each_by (λ hit. Some_of (λ other. IsWithin (less_roles other need.lacks) hit) (normal_need need).hits) need.hits (λ h i.
       let bare = less_roles h need.lacks in
       in_sort set_before set_order (λ other. IsWithin (less_roles other need.lacks) h) (least_hits (bare_hits need))
-      (some_weaker (λ k. IsWithin k bare) (λ other. IsWithin (less_roles other need.lacks) h) (λ k w r m. less_in h need.lacks r (w r (less_in k need.lacks r m))) (least_hits (bare_hits need))
+      (some_weaker (λ k. IsWithin k bare) (λ other. IsWithin (less_roles other need.lacks) h)
+      (λ k w r m. less_in h need.lacks r (w r (less_in k need.lacks r m))) (least_hits (bare_hits need))
       (least_below (count (λ j. is_less j bare) (bare_hits need)) (bare_hits need) bare (omega arith) (bare_in need h i))));
   lacks = λ r m. m;
 }
@@ -158,7 +176,8 @@ need_normal need = record {
 pub normal_covers : (need : Need) → CoversNeed (normal_need need) need
 normal_covers need = record {
   hits = each_by (λ hit. Some_of (λ other. IsWithin (less_roles other need.lacks) hit) need.hits) (normal_need need).hits (λ h i.
-      some_weaker (λ (k : List ℕ). less_roles k need.lacks ≡ h) (λ other. IsWithin (less_roles other need.lacks) h) (λ k e r m. subst (λ v. IsIn v r) e m) need.hits
+      some_weaker (λ (k : List ℕ). less_roles k need.lacks ≡ h) (λ other. IsWithin (less_roles other need.lacks) h)
+      (λ k e r m. subst (λ v. IsIn v r) e m) need.hits
       (in_bare need h (normal_hit need h i).0));
   lacks = λ r m. m;
 }
@@ -174,20 +193,24 @@ map_out (x ∷ xs) = embeds_front CoversNeed (normal_need x) x (map normal_need 
 pub normal_both : (needs form : List Need) → normal_form needs ≡ Some form → Covers needs form × Covers form needs
 normal_both needs form e =
     let s = (some_cond (is_impossible needs) (sort_by need_before (map normal_need needs)) form e).1 in (
-      subst (λ f. Covers needs f) s (covers_transitive needs (map normal_need needs) (sort_by need_before (map normal_need needs)) (map_into needs) (sort_into (map normal_need needs))),
-      subst (λ f. Covers f needs) s (covers_transitive (sort_by need_before (map normal_need needs)) (map normal_need needs) needs (sort_out (map normal_need needs)) (map_out needs)),
+      subst (λ f. Covers needs f) s (covers_transitive needs (map normal_need needs) (sort_by need_before (map normal_need needs)) (map_into needs)
+          (sort_into (map normal_need needs))),
+      subst (λ f. Covers f needs) s (covers_transitive (sort_by need_before (map normal_need needs)) (map normal_need needs) needs
+          (sort_out (map normal_need needs)) (map_out needs)),
     )
 
 -- impossible
 
-pub bare_filled : (need : Need) → Each (λ hit. (role : ℕ) × IsIn hit role × IsOut need.lacks role) need.hits → list_any is_empty (bare_hits need) ≡ false
+pub bare_filled : (need : Need) → Each (λ hit. (role : ℕ) × IsIn hit role × IsOut need.lacks role) need.hits
+    → list_any is_empty (bare_hits need) ≡ false
 bare_filled need h = go need.hits h
   where
     filled : (xs : List ℕ) (q : ℕ) → IsIn xs q → is_empty xs ≡ false
     filled [] q k = cc
     filled (x ∷ xs) q k = refl
 
-    go : (hits : List (List ℕ)) → Each (λ hit. (role : ℕ) × IsIn hit role × IsOut need.lacks role) hits → list_any is_empty (map (λ hit. less_roles hit need.lacks) hits) ≡ false
+    go : (hits : List (List ℕ)) → Each (λ hit. (role : ℕ) × IsIn hit role × IsOut need.lacks role) hits
+        → list_any is_empty (map (λ hit. less_roles hit need.lacks) hits) ≡ false
     go [] h = refl
     go (hit ∷ hits) h = rw (filled (less_roles hit need.lacks) h.0.0 (in_less hit need.lacks h.0.0 h.0.1 h.0.2)) (go hits h.1)
 
@@ -204,7 +227,8 @@ not_possible (need ∷ needs) e =
     first [] e = cc
     first (x ∷ xs) e = (x, rw (eq-eqb x x refl) refl)
 
-    go : (hits : List (List ℕ)) → list_any is_empty (map (λ hit. less_roles hit need.lacks) hits) ≡ false → Each (λ hit. (role : ℕ) × IsIn hit role × IsOut need.lacks role) hits
+    go : (hits : List (List ℕ)) → list_any is_empty (map (λ hit. less_roles hit need.lacks) hits) ≡ false
+        → Each (λ hit. (role : ℕ) × IsIn hit role × IsOut need.lacks role) hits
     go [] e = tt
     go (hit ∷ hits) e =
         let b = or_none (is_empty (less_roles hit need.lacks)) (list_any is_empty (map (λ hit. less_roles hit need.lacks) hits)) e in
@@ -250,7 +274,8 @@ normal_is_normal need sets possible = record {
         let k = some_one (λ (k : List ℕ). less_roles k need.lacks ≡ h) need.hits (in_bare need h i) in
         subst Rises k.2 (rises-filter (λ x. not (has_role need.lacks x)) k.0 (each_some Rises need.hits k.0 sets.hits k.1))
 
-    back : (h k : List ℕ) → list_any (λ other. is_less other h) (bare_hits need) ≡ false → Some_of (λ (v : List ℕ). v ≡ k) (bare_hits need) → IsWithin k h → IsWithin h k
+    back : (h k : List ℕ) → list_any (λ other. is_less other h) (bare_hits need) ≡ false → Some_of (λ (v : List ℕ). v ≡ k) (bare_hits need)
+        → IsWithin k h → IsWithin h k
     back h k none i w = by_test (is_within h k) refl
       where
         by_test : (t : Bool) → is_within h k ≡ t → IsWithin h k
@@ -258,7 +283,8 @@ normal_is_normal need sets possible = record {
         by_test false e =
             let less : is_less k h ≡ true = less_of k h w (λ v. let yes' = is_within_of h k v in cc) in
             let any' : list_any (λ other. is_less other h) (bare_hits need) ≡ true =
-            of_any (λ other. is_less other h ≡ true) (λ other. is_less other h) (λ other f. f) (bare_hits need) (one_some (λ other. is_less other h ≡ true) (bare_hits need) k i less) in cc
+            of_any (λ other. is_less other h ≡ true) (λ other. is_less other h) (λ other f. f) (bare_hits need)
+            (one_some (λ other. is_less other h ≡ true) (bare_hits need) k i less) in cc
 
 pub normal_forms : (needs : List Need) → Each AreSets needs → IsPossible needs → Each IsNormalNeed (map normal_need needs)
 normal_forms [] h p = tt

@@ -23,23 +23,27 @@ need_order = record { never = never; through = through; total = total }
         by_view (inr k) = set_order.never a.lacks k.1
 
     through : (a b c : Need) → need_before a b ≡ true → need_before b c ≡ true → need_before a c ≡ true
-    through a b c h k = by_views (then_view hits_before hits_order a.hits b.hits (set_before a.lacks b.lacks) h) (then_view hits_before hits_order b.hits c.hits (set_before b.lacks c.lacks) k)
+    through a b c h k = by_views (then_view hits_before hits_order a.hits b.hits (set_before a.lacks b.lacks) h)
+        (then_view hits_before hits_order b.hits c.hits (set_before b.lacks c.lacks) k)
       where
         by_views : (hits_before a.hits b.hits ≡ true) ⊎ ((a.hits ≡ b.hits) × (set_before a.lacks b.lacks ≡ true))
             → (hits_before b.hits c.hits ≡ true) ⊎ ((b.hits ≡ c.hits) × (set_before b.lacks c.lacks ≡ true)) → need_before a c ≡ true
         by_views (inl x) (inl y) = then_first hits_before a.hits c.hits (set_before a.lacks c.lacks) (hits_order.through a.hits b.hits c.hits x y)
         by_views (inl x) (inr y) = then_first hits_before a.hits c.hits (set_before a.lacks c.lacks) (subst (λ v. hits_before a.hits v ≡ true) y.0 x)
         by_views (inr x) (inl y) = then_first hits_before a.hits c.hits (set_before a.lacks c.lacks) (subst (λ v. hits_before v c.hits ≡ true) (sym x.0) y)
-        by_views (inr x) (inr y) = then_rest hits_before hits_order a.hits c.hits (set_before a.lacks c.lacks) (x.0 ∙ y.0) (set_order.through a.lacks b.lacks c.lacks x.1 y.1)
+        by_views (inr x) (inr y) =
+            then_rest hits_before hits_order a.hits c.hits (set_before a.lacks c.lacks) (x.0 ∙ y.0) (set_order.through a.lacks b.lacks c.lacks x.1 y.1)
 
     same_need : (a b : Need) → a.hits ≡ b.hits → a.lacks ≡ b.lacks → a ≡ b
-    same_need a b e f = ap (λ (h : List (List ℕ)). let n : Need = record { hits = h; lacks = a.lacks } in n) e ∙ ap (λ (l : List ℕ). let n : Need = record { hits = b.hits; lacks = l } in n) f
+    same_need a b e f = ap (λ (h : List (List ℕ)). let n : Need = record { hits = h; lacks = a.lacks } in n) e
+        ∙ ap (λ (l : List ℕ). let n : Need = record { hits = b.hits; lacks = l } in n) f
 
     total : (a b : Need) → (need_before a b ≡ true) ⊎ ((a ≡ b) ⊎ (need_before b a ≡ true))
     total a b = by_hits (hits_order.total a.hits b.hits) (set_order.total a.lacks b.lacks)
       where
         by_hits : (hits_before a.hits b.hits ≡ true) ⊎ ((a.hits ≡ b.hits) ⊎ (hits_before b.hits a.hits ≡ true))
-            → (set_before a.lacks b.lacks ≡ true) ⊎ ((a.lacks ≡ b.lacks) ⊎ (set_before b.lacks a.lacks ≡ true)) → (need_before a b ≡ true) ⊎ ((a ≡ b) ⊎ (need_before b a ≡ true))
+            → (set_before a.lacks b.lacks ≡ true) ⊎ ((a.lacks ≡ b.lacks) ⊎ (set_before b.lacks a.lacks ≡ true)) → (need_before a b ≡ true)
+            ⊎ ((a ≡ b) ⊎ (need_before b a ≡ true))
         by_hits (inl x) rest = inl (then_first hits_before a.hits b.hits (set_before a.lacks b.lacks) x)
         by_hits (inr (inr x)) rest = inr (inr (then_first hits_before b.hits a.hits (set_before b.lacks a.lacks) x))
         by_hits (inr (inl e)) (inl y) = inl (then_rest hits_before hits_order a.hits b.hits (set_before a.lacks b.lacks) e y)
@@ -64,17 +68,21 @@ requirement_order = record { never = never; through = through; total = total }
         (then_view nat_lt number_order (length b) (length c) (list_before need_before b c) k)
       where
         by_views : (nat_lt (length a) (length b) ≡ true) ⊎ ((length a ≡ length b) × (list_before need_before a b ≡ true))
-            → (nat_lt (length b) (length c) ≡ true) ⊎ ((length b ≡ length c) × (list_before need_before b c ≡ true)) → requirement_before a c ≡ true
-        by_views (inl x) (inl y) = then_first nat_lt (length a) (length c) (list_before need_before a c) (number_order.through (length a) (length b) (length c) x y)
+            → (nat_lt (length b) (length c) ≡ true) ⊎ ((length b ≡ length c) × (list_before need_before b c ≡ true))
+            → requirement_before a c ≡ true
+        by_views (inl x) (inl y) =
+            then_first nat_lt (length a) (length c) (list_before need_before a c) (number_order.through (length a) (length b) (length c) x y)
         by_views (inl x) (inr y) = then_first nat_lt (length a) (length c) (list_before need_before a c) (subst (λ v. nat_lt (length a) v ≡ true) y.0 x)
-        by_views (inr x) (inl y) = then_first nat_lt (length a) (length c) (list_before need_before a c) (subst (λ v. nat_lt v (length c) ≡ true) (sym x.0) y)
+        by_views (inr x) (inl y) =
+            then_first nat_lt (length a) (length c) (list_before need_before a c) (subst (λ v. nat_lt v (length c) ≡ true) (sym x.0) y)
         by_views (inr x) (inr y) = then_rest nat_lt number_order (length a) (length c) (list_before need_before a c) (x.0 ∙ y.0) (rest.through a b c x.1 y.1)
 
     total : (a b : List Need) → (requirement_before a b ≡ true) ⊎ ((a ≡ b) ⊎ (requirement_before b a ≡ true))
     total a b = by_length (number_order.total (length a) (length b)) (rest.total a b)
       where
         by_length : (nat_lt (length a) (length b) ≡ true) ⊎ ((length a ≡ length b) ⊎ (nat_lt (length b) (length a) ≡ true))
-            → (list_before need_before a b ≡ true) ⊎ ((a ≡ b) ⊎ (list_before need_before b a ≡ true)) → (requirement_before a b ≡ true) ⊎ ((a ≡ b) ⊎ (requirement_before b a ≡ true))
+            → (list_before need_before a b ≡ true) ⊎ ((a ≡ b) ⊎ (list_before need_before b a ≡ true)) → (requirement_before a b ≡ true)
+            ⊎ ((a ≡ b) ⊎ (requirement_before b a ≡ true))
         by_length (inl x) r = inl (then_first nat_lt (length a) (length b) (list_before need_before a b) x)
         by_length (inr (inr x)) r = inr (inr (then_first nat_lt (length b) (length a) (list_before need_before b a) x))
         by_length (inr (inl e)) (inl y) = inl (then_rest nat_lt number_order (length a) (length b) (list_before need_before a b) e y)

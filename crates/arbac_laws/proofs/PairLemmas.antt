@@ -24,11 +24,13 @@ use Rattle.arbac_laws.proofs.RowLemmas.{anyone_covers, form_of, lacks_adm, nobod
 
 -- exclusive pairs
 
-pub d_barred : pre_form (mix_apart ((c, d) ∷ [])) (hits c ∷ []) (assigns 0 0 c 0 fresh) ≡ Some (record { hits = []; lacks = adm ∷ d ∷ [] } ∷ hits adm ∷ [])
+pub d_barred : pre_form (mix_apart ((c, d) ∷ [])) (hits c ∷ []) (assigns 0 0 c 0 fresh) ≡ Some
+    (record { hits = []; lacks = adm ∷ d ∷ [] } ∷ hits adm ∷ [])
 unfolding seniors_of
 d_barred = rw lacks_adm refl
 
-pub d_barred_second : pre_form (mix_apart ((d, c) ∷ [])) (hits c ∷ []) (assigns 0 0 c 0 fresh) ≡ Some (record { hits = []; lacks = adm ∷ d ∷ [] } ∷ hits adm ∷ [])
+pub d_barred_second : pre_form (mix_apart ((d, c) ∷ [])) (hits c ∷ []) (assigns 0 0 c 0 fresh) ≡ Some
+    (record { hits = []; lacks = adm ∷ d ∷ [] } ∷ hits adm ∷ [])
 unfolding seniors_of
 d_barred_second = rw lacks_adm refl
 
@@ -40,7 +42,8 @@ pub none_barred : pre_form (mix_apart ((adm, d) ∷ [])) (hits c ∷ []) (assign
 unfolding seniors_of
 none_barred = rw lacks_adm refl
 
-pub four_obligations : obligations pair_policy (hits_both c d ∷ []) ≡ assigns 0 0 c 0 itself ∷ assigns 0 0 c 0 fresh ∷ assigns 1 0 d 0 itself ∷ assigns 1 0 d 0 fresh ∷ []
+pub four_obligations : obligations pair_policy
+    (hits_both c d ∷ []) ≡ assigns 0 0 c 0 itself ∷ assigns 0 0 c 0 fresh ∷ assigns 1 0 d 0 itself ∷ assigns 1 0 d 0 fresh ∷ []
 unfolding seniors_of
 four_obligations = rw term_any refl
 
@@ -50,7 +53,8 @@ both_wanted = refl
 
 pub nothing_will_do : Each (λ ob. pre_form pair_policy (hits_both c d ∷ []) ob ≡ None) (obligations pair_policy (hits_both c d ∷ []))
 unfolding seniors_of
-nothing_will_do = subst (Each (λ ob. pre_form pair_policy (hits_both c d ∷ []) ob ≡ None)) (sym four_obligations) (rw term_any refl, (rw term_any refl, (rw term_any refl, (rw term_any refl, tt))))
+nothing_will_do = subst (Each (λ ob. pre_form pair_policy (hits_both c d ∷ []) ob ≡ None)) (sym four_obligations)
+    (rw term_any refl, (rw term_any refl, (rw term_any refl, (rw term_any refl, tt))))
 
 pub both_closed : IsClosedList pair_policy one_admin (both (has c) (has d) ∷ []) ((hits_both c d ∷ []) ∷ [])
 both_closed = record {
@@ -64,11 +68,13 @@ both_closed = record {
     list = (hits_both c d ∷ []) ∷ []
 
     Impossible : List Need → Type 0
-    Impossible needs = (ob : Obligation) → IsOneOf (obligations pair_policy needs) ob → (before : List Need) → pre_image pair_policy needs ob ≡ Some before → ¬ IsPossible before
+    Impossible needs = (ob : Obligation) → IsOneOf (obligations pair_policy needs) ob → (before : List Need)
+        → pre_image pair_policy needs ob ≡ Some before → ¬ IsPossible before
 
     none : Impossible (hits_both c d ∷ [])
     none ob at before e = (none_impossible before).0 (form_of pair_policy (hits_both c d ∷ []) ob before None
-        (each_at (λ ob. pre_form pair_policy (hits_both c d ∷ []) ob ≡ None) (obligations pair_policy (hits_both c d ∷ [])) at.0 ob nothing_will_do at.1) e)
+        (each_at (λ ob. pre_form pair_policy (hits_both c d ∷ []) ob ≡ None)
+        (obligations pair_policy (hits_both c d ∷ [])) at.0 ob nothing_will_do at.1) e)
 
 -- one user, and another that it covers
 
@@ -89,7 +95,8 @@ pub two_cover_no_one : Covers (anyone ∷ anyone ∷ []) (anyone ∷ []) → ⊥
 two_cover_no_one f = let long = embeds_long CoversNeed (anyone ∷ anyone ∷ []) (anyone ∷ []) f in omega (arith, long)
 
 pub third_covers : Covers (anyone ∷ hits adm ∷ []) (hits adm ∷ hits adm ∷ [])
-third_covers = embeds_front CoversNeed anyone (hits adm) (hits adm ∷ []) (hits adm ∷ []) (anyone_covers (hits adm)) (one_covers (hits adm) (hits adm) (covers_itself (hits adm)))
+third_covers = embeds_front CoversNeed anyone (hits adm) (hits adm ∷ []) (hits adm ∷ []) (anyone_covers (hits adm))
+    (one_covers (hits adm) (hits adm) (covers_itself (hits adm)))
 
 pub third_not_covering : Covers (anyone ∷ hits adm ∷ []) (hits c ∷ []) → ⊥
 third_not_covering f = let long = embeds_long CoversNeed (anyone ∷ hits adm ∷ []) (hits c ∷ []) f in omega (arith, long)
@@ -98,7 +105,8 @@ pub lacks_not_covering : Covers (without c ∷ []) (anyone ∷ []) → ⊥
 lacks_not_covering f = let none = (covers_one (without c) anyone f).lacks c refl in cc
 
 pub either_covers : Covers (hits_either adm c ∷ []) (hits c ∷ [])
-either_covers = one_covers (hits_either adm c) (hits c) (record { hits = (inl (λ role h. or_right (eqb adm role) (has_role (c ∷ []) role) h), tt); lacks = λ role h. h })
+either_covers = one_covers (hits_either adm c) (hits c)
+    (record { hits = (inl (λ role h. or_right (eqb adm role) (has_role (c ∷ []) role) h), tt); lacks = λ role h. h })
 
 pub lesser_not_covering : Covers (hits c ∷ []) (hits_either adm c ∷ []) → ⊥
 lesser_not_covering f = by_some (covers_one (hits c) (hits_either adm c) f).hits.0
@@ -108,4 +116,5 @@ lesser_not_covering f = by_some (covers_one (hits c) (hits_either adm c) f).hits
     by_some (inr h) = h
 
 pub lacking_covered : Covers (hits c ∷ []) (record { hits = (adm ∷ c ∷ []) ∷ []; lacks = adm ∷ [] } ∷ [])
-lacking_covered = one_covers (hits c) (record { hits = (adm ∷ c ∷ []) ∷ []; lacks = adm ∷ [] }) (record { hits = (inl (λ role h. h), tt); lacks = λ role h. cc })
+lacking_covered = one_covers (hits c) (record { hits = (adm ∷ c ∷ []) ∷ []; lacks = adm ∷ [] })
+    (record { hits = (inl (λ role h. h), tt); lacks = λ role h. cc })

@@ -24,27 +24,33 @@ normal_sets [] h = tt
 normal_sets (x ∷ xs) h = (record { hits = h.0.rising; lacks = h.0.lacks }, normal_sets xs h.1)
 
 -- each entry is in normal form, by its parents before it
-pub entry_normal : (rules : Rules) → AreSeniors rules.order → (profiles : List Profile) (goal : List Term) (list : List Entry) → IsRecordedList rules profiles goal list
+pub entry_normal : (rules : Rules) → AreSeniors rules.order → (profiles : List Profile) (goal : List Term) (list : List Entry)
+    → IsRecordedList rules profiles goal list
     → (n place : ℕ) (entry : Entry) → place < n → slice_get list place ≡ Some entry → IsNormal entry.needs
 entry_normal rules same profiles goal list recorded zero place entry l at = absurd (omega arith)
 entry_normal rules same profiles goal list recorded (suc n) place entry l at =
     let r = recorded place entry at in
-    form_is_normal r.derived.0 entry.needs (by_origin entry.origin r.derived.0 r.derived.1 (λ p e m. entry_normal rules same profiles goal list recorded n p e m)) r.derived.2
+    form_is_normal r.derived.0 entry.needs
+    (by_origin entry.origin r.derived.0 r.derived.1 (λ p e m. entry_normal rules same profiles goal list recorded n p e m)) r.derived.2
   where
     by_origin : (origin : Origin) (needs : List Need) → IsOrigin rules goal (take place list) origin needs
         → ((p : ℕ) (parent : Entry) → p < n → slice_get list p ≡ Some parent → IsNormal parent.needs) → Each AreSets needs
-    by_origin (of_goal number) needs named before = each_at (Each AreSets) (goal_requirements rules.order goal) number needs (goal_sets rules.order goal) named
+    by_origin (of_goal number) needs named before =
+        each_at (Each AreSets) (goal_requirements rules.order goal) number needs (goal_sets rules.order goal) named
     by_origin (of_parent p ob) needs named before =
         let there = get_taken list place p named.0 named.1 in
         let less = there.0 in
         let normal = before p named.0 (omega (arith, less, l)) there.1 in
         sets_kept rules same named.0.needs (normal_sets named.0.needs normal.each) ob named.2 needs named.3
 
-pub each_normal : (rules : Rules) → AreSeniors rules.order → (profiles : List Profile) (goal : List Term) (list : List Entry) → IsRecordedList rules profiles goal list
+pub each_normal : (rules : Rules) → AreSeniors rules.order → (profiles : List Profile) (goal : List Term) (list : List Entry)
+    → IsRecordedList rules profiles goal list
     → (place : ℕ) (entry : Entry) → slice_get list place ≡ Some entry → IsNormal entry.needs
-each_normal rules same profiles goal list recorded place entry at = entry_normal rules same profiles goal list recorded (suc place) place entry (omega arith) at
+each_normal rules same profiles goal list recorded place entry at =
+    entry_normal rules same profiles goal list recorded (suc place) place entry (omega arith) at
 
-pub front_recorded : (rules : Rules) (profiles : List Profile) (goal : List Term) (list : List Entry) (n : ℕ) → IsRecordedList rules profiles goal list → IsRecordedList rules profiles goal (take n list)
+pub front_recorded : (rules : Rules) (profiles : List Profile) (goal : List Term) (list : List Entry) (n : ℕ)
+    → IsRecordedList rules profiles goal list → IsRecordedList rules profiles goal (take n list)
 front_recorded rules profiles goal list n recorded place entry at =
     let there = get_taken list n place entry at in
     let less = there.0 in

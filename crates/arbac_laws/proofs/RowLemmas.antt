@@ -1,5 +1,6 @@
 -- The small policy, computed, and a closed list for it.
-use Rattle.std.proofs.Common.{ℕ, ◌≡◌, ◌≤◌, List, [], ◌∷◌, length, Some, None, Option, arith, zero, suc, sym, ◌∙◌, ap, eqb, true, subst, refl, inl, inr}
+use Rattle.std.proofs.Common.{ℕ, ◌≡◌, ◌≤◌, List, [], ◌∷◌, length, Some, None, Option, arith, zero, suc, sym, ◌∙◌, ap, eqb, true}
+use Rattle.std.proofs.Common.{subst, refl, inl, inr}
 use Rattle.std.specs.Prelude.{slice_get}
 use Rattle.std.proofs.lemmas.Bool.{eq-eqb}
 use Rattle.list_words.specs.Lists.{Each}
@@ -55,7 +56,8 @@ pub first_before : pre_image mix (hits c ∷ []) (assigns 0 0 c 0 fresh) ≡ Som
 unfolding seniors_of
 first_before = rw lacks_adm refl
 
-pub second_obligations : obligations mix (without adm ∷ hits adm ∷ []) ≡ revokes 0 adm 0 itself ∷ revokes 0 adm 0 (other 1) ∷ revokes 0 adm 0 fresh ∷ []
+pub second_obligations : obligations mix (without adm ∷ hits adm ∷ []) ≡ revokes 0 adm 0 itself ∷ revokes 0 adm 0
+    (other 1) ∷ revokes 0 adm 0 fresh ∷ []
 unfolding seniors_of
 second_obligations = rw lacks_adm refl
 
@@ -112,7 +114,11 @@ second_met = subst (Each (IsMet (without adm ∷ hits adm ∷ []))) (sym second_
   by_form (without adm ∷ hits adm ∷ []) (revokes 0 adm 0 itself) (hits adm ∷ hits adm ∷ []) second_itself (covered_third (hits adm) []),
   (
     by_form (without adm ∷ hits adm ∷ []) (revokes 0 adm 0 (other 1)) (anyone ∷ hits adm ∷ []) second_other (covered_third anyone []),
-    (by_form (without adm ∷ hits adm ∷ []) (revokes 0 adm 0 fresh) (anyone ∷ hits adm ∷ hits adm ∷ []) second_fresh (covered_third anyone (hits adm ∷ [])), tt),
+    (
+      by_form (without adm ∷ hits adm ∷ []) (revokes 0 adm 0 fresh) (anyone ∷ hits adm ∷ hits adm ∷ []) second_fresh
+          (covered_third anyone (hits adm ∷ [])),
+      tt,
+    ),
   ),
 )
 
@@ -122,7 +128,9 @@ third_met = subst (Each (IsMet (anyone ∷ hits adm ∷ []))) (sym third_obligat
 -- drawn populations: at most one user, who has adm alone
 
 pub one_profile : (place : ℕ) (profile : Profile) → slice_get one_admin place ≡ Some profile → (place ≡ 0) × (profile.set ≡ adm ∷ [])
-one_profile zero profile e = let e' : Some (record { set = adm ∷ []; most = Some 1 }) ≡ Some profile = e in (refl, sym (ap (λ (p : Profile). p.set) (same_some (record { set = adm ∷ []; most = Some 1 }) profile e')))
+one_profile zero profile e =
+    let e' : Some (record { set = adm ∷ []; most = Some 1 }) ≡ Some profile = e in
+    (refl, sym (ap (λ (p : Profile). p.set) (same_some (record { set = adm ∷ []; most = Some 1 }) profile e')))
 one_profile (suc place) profile e = cc
 
 pub as_often : (choice : List ℕ) (users : List (List ℕ)) → AreUsers one_admin choice users → length users ≡ times 0 choice
@@ -142,7 +150,8 @@ few_users users drawn =
     omega (arith, few, long)
 
 -- who is drawn from profiles of adm alone has adm alone
-pub has_adm_alone : (profiles : List Profile) → Each (λ (profile : Profile). profile.set ≡ adm ∷ []) profiles → (users : List (List ℕ)) → IsDrawn profiles users
+pub has_adm_alone : (profiles : List Profile) → Each (λ (profile : Profile). profile.set ≡ adm ∷ []) profiles → (users : List (List ℕ))
+    → IsDrawn profiles users
     → (i : ℕ) (set : List ℕ) → slice_get users i ≡ Some set → set ≡ adm ∷ []
 has_adm_alone profiles all users drawn i set at =
     let d = drawn_profile profiles drawn.choice users drawn.are_users i set at in
@@ -163,7 +172,8 @@ nobody_has_c profiles all more users drawn f =
         by_cases (inl e) (inr f) = cc
         by_cases (inr e) f = cc
 
-pub nobody_lacks_adm : (profiles : List Profile) → Each (λ (profile : Profile). profile.set ≡ adm ∷ []) profiles → (needs : List Need) → IsUnmet profiles (without adm ∷ needs)
+pub nobody_lacks_adm : (profiles : List Profile) → Each (λ (profile : Profile). profile.set ≡ adm ∷ []) profiles → (needs : List Need)
+    → IsUnmet profiles (without adm ∷ needs)
 nobody_lacks_adm profiles all needs users drawn f =
     let one = f.each 0 (without adm) refl in
     one.2.lacks adm refl (subst (λ s. IsIn s adm) (sym (has_adm_alone profiles all users drawn (f.to 0) one.0 one.1)) refl)
@@ -178,5 +188,6 @@ mix_closed = record {
   pre_images = λ needs is ob at before e possible.
       let all = each_at (λ needs. Each (IsMet needs) (obligations mix needs)) mix_needs is.0 needs (first_met, (second_met, (third_met, tt))) is.1 in
       each_at (IsMet needs) (obligations mix needs) at.0 ob all at.1 before e possible;
-  unmet = λ needs is. each_at (IsUnmet one_admin) mix_needs is.0 needs (nobody_has_c one_admin (refl, tt) [], (two_users (without adm) (hits adm), (two_users anyone (hits adm), tt))) is.1;
+  unmet = λ needs is. each_at (IsUnmet one_admin) mix_needs is.0 needs
+      (nobody_has_c one_admin (refl, tt) [], (two_users (without adm) (hits adm), (two_users anyone (hits adm), tt))) is.1;
 }

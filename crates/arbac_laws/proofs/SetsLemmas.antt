@@ -36,13 +36,15 @@ conjunct_sets order any = (record { hits = tt; lacks = tt }, tt)
 conjunct_sets order (has role) = (record { hits = (rises_seniors order role, tt); lacks = tt }, tt)
 conjunct_sets order (lacks role) = (record { hits = tt; lacks = rises_seniors order role }, tt)
 conjunct_sets order (both left right) = all_sets (conjuncts order left) (conjuncts order right) (conjunct_sets order left) (conjunct_sets order right)
-conjunct_sets order (either left right) = each_append AreSets (conjuncts order left) (conjuncts order right) (conjunct_sets order left) (conjunct_sets order right)
+conjunct_sets order (either left right) =
+    each_append AreSets (conjuncts order left) (conjuncts order right) (conjunct_sets order left) (conjunct_sets order right)
 
 pub goal_sets : (order : Graph) (goal : List Term) → Each (Each AreSets) (goal_requirements order goal)
 goal_sets order [] = (tt, tt)
 goal_sets order (cond ∷ goal) = each_before (conjuncts order cond) (goal_requirements order goal) (conjunct_sets order cond) (goal_sets order goal)
   where
-    each_map : (a : Need) (tails more : List (List Need)) → AreSets a → Each (Each AreSets) tails → Each (Each AreSets) more → Each (Each AreSets) (map (λ tail. a ∷ tail) tails ++ more)
+    each_map : (a : Need) (tails more : List (List Need)) → AreSets a → Each (Each AreSets) tails → Each (Each AreSets) more
+        → Each (Each AreSets) (map (λ tail. a ∷ tail) tails ++ more)
     each_map a [] more s h k = k
     each_map a (tail ∷ tails) more s h k = ((s, h.0), each_map a tails more s h.1 k)
 
@@ -52,7 +54,9 @@ goal_sets order (cond ∷ goal) = each_before (conjuncts order cond) (goal_requi
 
 pub barred_rises : (order : Graph) (role : ℕ) (pairs : List (ℕ × ℕ)) → Rises (barred order role pairs)
 barred_rises order role [] = tt
-barred_rises order role (pair ∷ pairs) = rises-join_roles (cond (has_role (seniors_of order pair.0) role) (seniors_of order pair.1) []) (join_roles (cond (has_role (seniors_of order pair.1) role) (seniors_of order pair.0) []) (barred order role pairs))
+barred_rises order role (pair ∷ pairs) =
+    rises-join_roles (cond (has_role (seniors_of order pair.0) role) (seniors_of order pair.1) [])
+    (join_roles (cond (has_role (seniors_of order pair.1) role) (seniors_of order pair.0) []) (barred order role pairs))
     (rises-join_roles (cond (has_role (seniors_of order pair.1) role) (seniors_of order pair.0) []) (barred order role pairs) (barred_rises order role pairs))
 
 pub each_passed : {A : Type 0} (P : A → Type 0) (test : A → Bool) (xs : List A) → Each P xs → Each P (filter test xs)
@@ -63,10 +67,12 @@ each_passed P test (x ∷ xs) h = by_test (test x) (each_passed P test xs h.1)
     by_test true rest = (h.0, rest)
     by_test false rest = rest
 
-pub assign_sets : (rules : Rules) (conjunct need before : Need) (role : ℕ) → AreSets conjunct → AreSets need → before_assign rules conjunct role need ≡ Some before → AreSets before
+pub assign_sets : (rules : Rules) (conjunct need before : Need) (role : ℕ) → AreSets conjunct → AreSets need
+    → before_assign rules conjunct role need ≡ Some before → AreSets before
 assign_sets rules conjunct need before role c n e =
     subst AreSets (some_cond (has_role need.lacks role || is_barred rules.order role rules.exclusive) made before e).1 (record {
-      hits = each_append Rises (filter (λ hit. not (has_role hit role)) need.hits) conjunct.hits (each_passed Rises (λ hit. not (has_role hit role)) need.hits n.hits) c.hits;
+      hits = each_append Rises (filter (λ hit. not (has_role hit role)) need.hits) conjunct.hits
+          (each_passed Rises (λ hit. not (has_role hit role)) need.hits n.hits) c.hits;
       lacks = rises-join_roles need.lacks (join_roles conjunct.lacks (barred rules.order role rules.exclusive))
           (rises-join_roles conjunct.lacks (barred rules.order role rules.exclusive) (barred_rises rules.order role rules.exclusive));
     })
@@ -78,7 +84,9 @@ assign_sets rules conjunct need before role c n e =
     }
 
 pub weak_sets : (need before : Need) (role : ℕ) → AreSets need → before_weak role need ≡ Some before → AreSets before
-weak_sets need before role n e = subst AreSets (some_cond (has_alone role need.hits) made before e).1 (record { hits = without need.hits n.hits; lacks = rises-filter (λ x. not (eqb x role)) need.lacks n.lacks })
+weak_sets need before role n e =
+    subst AreSets (some_cond (has_alone role need.hits) made before e).1
+    (record { hits = without need.hits n.hits; lacks = rises-filter (λ x. not (eqb x role)) need.lacks n.lacks })
   where
     made : Need
     made = record { hits = map (λ hit. without_role hit role) need.hits; lacks = without_role need.lacks role }
@@ -97,19 +105,23 @@ change_sets [] i hit h r = tt
 change_sets (x ∷ xs) zero hit h r = (record { hits = (r, h.0.hits); lacks = h.0.lacks }, h.1)
 change_sets (x ∷ xs) (suc i) hit h r = (h.0, change_sets xs i hit h.1 r)
 
-pub admin_sets : (pick : Pick) (target : ℕ) (hit : List ℕ) (needs : List Need) → Each AreSets needs → Rises hit → Each AreSets (with_admin pick target hit needs)
+pub admin_sets : (pick : Pick) (target : ℕ) (hit : List ℕ) (needs : List Need) → Each AreSets needs → Rises hit
+    → Each AreSets (with_admin pick target hit needs)
 admin_sets itself target hit needs h r = change_sets needs target hit h r
 admin_sets (other place) target hit needs h r = change_sets needs place hit h r
-admin_sets fresh target hit needs h r = each_append AreSets needs (record { hits = hit ∷ []; lacks = [] } ∷ []) h (record { hits = (r, tt); lacks = tt }, tt)
+admin_sets fresh target hit needs h r =
+    each_append AreSets needs (record { hits = hit ∷ []; lacks = [] } ∷ []) h (record { hits = (r, tt); lacks = tt }, tt)
 
-pub sets_kept : (rules : Rules) → AreSeniors rules.order → (needs : List Need) → Each AreSets needs → (ob : Obligation) → IsOneOf (obligations rules needs) ob
+pub sets_kept : (rules : Rules) → AreSeniors rules.order → (needs : List Need) → Each AreSets needs → (ob : Obligation)
+    → IsOneOf (obligations rules needs) ob
     → (before : List Need) → pre_image rules needs ob ≡ Some before → Each AreSets before
 sets_kept rules same needs sets ob is before e = by_parts (in_parts rules same needs ob is before e)
   where
     by_parts : IsAssigning rules needs ob before ⊎ IsRevoking rules needs ob before → Each AreSets before
     by_parts (inl p) =
         let d = p.parts in
-        let conjunct = each_at AreSets (conjuncts rules.order (term_of d.rule.cond)) d.is_conjunct.0 d.conjunct (conjunct_sets rules.order (term_of d.rule.cond)) d.is_conjunct.1 in
+        let conjunct = each_at AreSets (conjuncts rules.order (term_of d.rule.cond)) d.is_conjunct.0 d.conjunct
+        (conjunct_sets rules.order (term_of d.rule.cond)) d.is_conjunct.1 in
         let target = assign_sets rules d.conjunct d.need d.before d.role conjunct (each_at AreSets needs d.target d.need sets d.need_is) d.before_is in
         subst (Each AreSets) p.image (admin_sets d.pick d.target (seniors_of rules.order d.rule.admin) (slice_set needs d.target d.before)
         (exchange_sets needs d.target d.before sets target) (rises_seniors rules.order d.rule.admin))

@@ -11,7 +11,8 @@ pub filter_in : {A : Type 0} (P : A → Type 0) (p : A → Bool) (xs : List A) �
 filter_in P p [] h = h
 filter_in {A} P p (x ∷ xs) h = by_test (p x) refl h (filter_in P p xs)
   where
-    by_test : (t : Bool) → p x ≡ t → Some_of P (cond t (x ∷ filter p xs) (filter p xs)) → (Some_of P (filter p xs) → Some_of (λ x. P x × (p x ≡ true)) xs) → Some_of (λ x. P x × (p x ≡ true)) (x ∷ xs)
+    by_test : (t : Bool) → p x ≡ t → Some_of P (cond t (x ∷ filter p xs) (filter p xs))
+        → (Some_of P (filter p xs) → Some_of (λ x. P x × (p x ≡ true)) xs) → Some_of (λ x. P x × (p x ≡ true)) (x ∷ xs)
     by_test true e (inl h) rest = inl (h, e)
     by_test true e (inr h) rest = inr (rest h)
     by_test false e h rest = inr (rest h)
@@ -25,12 +26,14 @@ in_filter P p (x ∷ xs) (inr h) = by_test (p x) (in_filter P p xs h)
     by_test true k = inr k
     by_test false k = k
 
-pub insert_in : {A : Type 0} (before : A → A → Bool) → IsTotalOrder before → (P : A → Type 0) (x : A) (ys : List A) → Some_of P (insert_once before x ys) → P x ⊎ Some_of P ys
+pub insert_in : {A : Type 0} (before : A → A → Bool) → IsTotalOrder before → (P : A → Type 0) (x : A) (ys : List A)
+    → Some_of P (insert_once before x ys) → P x ⊎ Some_of P ys
 insert_in before o P x [] (inl h) = inl h
 insert_in before o P x [] (inr h) = inr h
 insert_in before o P x (y ∷ ys) h = by_tests (before y x) (before x y) h (insert_in before o P x ys)
   where
-    by_tests : (s t : Bool) → Some_of P (cond s (y ∷ insert_once before x ys) (cond t (x ∷ y ∷ ys) (y ∷ ys))) → (Some_of P (insert_once before x ys) → P x ⊎ Some_of P ys) → P x ⊎ Some_of P (y ∷ ys)
+    by_tests : (s t : Bool) → Some_of P (cond s (y ∷ insert_once before x ys) (cond t (x ∷ y ∷ ys) (y ∷ ys)))
+        → (Some_of P (insert_once before x ys) → P x ⊎ Some_of P ys) → P x ⊎ Some_of P (y ∷ ys)
     by_tests true t (inl h) rest = inr (inl h)
     by_tests true t (inr h) rest = further (rest h)
       where
@@ -41,11 +44,13 @@ insert_in before o P x (y ∷ ys) h = by_tests (before y x) (before x y) h (inse
     by_tests false true (inr h) rest = inr h
     by_tests false false h rest = inr h
 
-pub in_insert : {A : Type 0} (before : A → A → Bool) → IsTotalOrder before → (P : A → Type 0) (x : A) (ys : List A) → P x ⊎ Some_of P ys → Some_of P (insert_once before x ys)
+pub in_insert : {A : Type 0} (before : A → A → Bool) → IsTotalOrder before → (P : A → Type 0) (x : A) (ys : List A) → P x ⊎ Some_of P ys
+    → Some_of P (insert_once before x ys)
 in_insert before o P x [] h = h
 in_insert {A} before o P x (y ∷ ys) h = by_tests (before y x) (before x y) refl refl h (in_insert before o P x ys)
   where
-    by_tests : (s t : Bool) → before y x ≡ s → before x y ≡ t → P x ⊎ Some_of P (y ∷ ys) → (P x ⊎ Some_of P ys → Some_of P (insert_once before x ys))
+    by_tests : (s t : Bool) → before y x ≡ s → before x y ≡ t → P x ⊎ Some_of P (y ∷ ys)
+        → (P x ⊎ Some_of P ys → Some_of P (insert_once before x ys))
         → Some_of P (cond s (y ∷ insert_once before x ys) (cond t (x ∷ y ∷ ys) (y ∷ ys)))
     by_tests true t e f (inl h) rest = inr (rest (inl h))
     by_tests true t e f (inr (inl h)) rest = inl h
@@ -59,7 +64,8 @@ in_insert {A} before o P x (y ∷ ys) h = by_tests (before y x) (before x y) ref
         by_total (inr (inl same)) = inl (subst P same h)
         by_total (inr (inr k)) = cc
 
-pub sort_in : {A : Type 0} (before : A → A → Bool) → IsTotalOrder before → (P : A → Type 0) (xs : List A) → Some_of P (sort_once before xs) → Some_of P xs
+pub sort_in : {A : Type 0} (before : A → A → Bool) → IsTotalOrder before → (P : A → Type 0) (xs : List A) → Some_of P (sort_once before xs)
+    → Some_of P xs
 sort_in before o P [] h = h
 sort_in before o P (x ∷ xs) h = by_side (insert_in before o P x (sort_once before xs) h) (sort_in before o P xs)
   where
@@ -67,17 +73,21 @@ sort_in before o P (x ∷ xs) h = by_side (insert_in before o P x (sort_once bef
     by_side (inl h) rest = inl h
     by_side (inr h) rest = inr (rest h)
 
-pub in_sort : {A : Type 0} (before : A → A → Bool) → IsTotalOrder before → (P : A → Type 0) (xs : List A) → Some_of P xs → Some_of P (sort_once before xs)
+pub in_sort : {A : Type 0} (before : A → A → Bool) → IsTotalOrder before → (P : A → Type 0) (xs : List A) → Some_of P xs
+    → Some_of P (sort_once before xs)
 in_sort before o P [] h = h
 in_sort before o P (x ∷ xs) (inl h) = in_insert before o P x (sort_once before xs) (inl h)
 in_sort before o P (x ∷ xs) (inr h) = in_insert before o P x (sort_once before xs) (inr (in_sort before o P xs h))
 
-pub insert_rises : {A : Type 0} (before : A → A → Bool) → IsTotalOrder before → (x : A) (ys : List A) → AreRising before ys → AreRising before (insert_once before x ys)
+pub insert_rises : {A : Type 0} (before : A → A → Bool) → IsTotalOrder before → (x : A) (ys : List A) → AreRising before ys
+    → AreRising before (insert_once before x ys)
 insert_rises before o x [] r = (tt, tt)
 insert_rises {A} before o x (y ∷ ys) r = by_tests (before y x) (before x y) refl refl (insert_rises before o x ys r.1)
   where
-    by_tests : (s t : Bool) → before y x ≡ s → before x y ≡ t → AreRising before (insert_once before x ys) → AreRising before (cond s (y ∷ insert_once before x ys) (cond t (x ∷ y ∷ ys) (y ∷ ys)))
-    by_tests true t e f rest = (each_by (λ z. before y z ≡ true) (insert_once before x ys) (λ z i. later z (insert_in before o (λ (v : A). v ≡ z) x ys i)), rest)
+    by_tests : (s t : Bool) → before y x ≡ s → before x y ≡ t → AreRising before (insert_once before x ys)
+        → AreRising before (cond s (y ∷ insert_once before x ys) (cond t (x ∷ y ∷ ys) (y ∷ ys)))
+    by_tests true t e f rest =
+        (each_by (λ z. before y z ≡ true) (insert_once before x ys) (λ z i. later z (insert_in before o (λ (v : A). v ≡ z) x ys i)), rest)
       where
         later : (z : A) → (x ≡ z) ⊎ Some_of (λ (v : A). v ≡ z) ys → before y z ≡ true
         later z (inl s) = subst (λ v. before y v ≡ true) s e
@@ -97,7 +107,8 @@ filter_rises {A} before p (x ∷ xs) r = by_test (p x) (filter_rises before p xs
     by_test false rest = rest
     by_test true rest = (
       each_by (λ z. before x z ≡ true) (filter p xs) (λ z i.
-          each_some (λ v. before x v ≡ true) xs z r.0 (some_weaker (λ v. (v ≡ z) × (p v ≡ true)) (λ (v : A). v ≡ z) (λ v b. b.0) xs (filter_in (λ (v : A). v ≡ z) p xs i))),
+          each_some (λ v. before x v ≡ true) xs z r.0
+          (some_weaker (λ v. (v ≡ z) × (p v ≡ true)) (λ (v : A). v ≡ z) (λ v b. b.0) xs (filter_in (λ (v : A). v ≡ z) p xs i))),
       rest,
     )
 
@@ -113,11 +124,13 @@ pub sort_by_in : {A : Type 0} (before : A → A → Bool) (P : A → Type 0) (xs
 sort_by_in before P [] e = tt
 sort_by_in before P (x ∷ xs) e = insert_by_in before P x (sort_by before xs) (sort_by_in before P xs e.1) e.0
 
-pub insert_sorted : {A : Type 0} (before : A → A → Bool) → IsTotalOrder before → (x : A) (ys : List A) → AreSorted before ys → AreSorted before (insert_by before x ys)
+pub insert_sorted : {A : Type 0} (before : A → A → Bool) → IsTotalOrder before → (x : A) (ys : List A) → AreSorted before ys
+    → AreSorted before (insert_by before x ys)
 insert_sorted before o x [] s = (tt, tt)
 insert_sorted {A} before o x (y ∷ ys) s = by_test (before y x) refl (insert_sorted before o x ys s.1)
   where
-    by_test : (t : Bool) → before y x ≡ t → AreSorted before (insert_by before x ys) → AreSorted before (cond t (y ∷ insert_by before x ys) (x ∷ y ∷ ys))
+    by_test : (t : Bool) → before y x ≡ t → AreSorted before (insert_by before x ys)
+        → AreSorted before (cond t (y ∷ insert_by before x ys) (x ∷ y ∷ ys))
     by_test true e rest = (insert_by_in before (λ z. before z y ≡ true → ⊥) x ys s.0 (λ k. not_both before o x y k e), rest)
     by_test false e rest = (((λ k. cc), each_weaker (λ z. before z y ≡ true → ⊥) (λ z. before z x ≡ true → ⊥) later ys s.0), s)
       where

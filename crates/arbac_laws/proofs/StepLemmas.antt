@@ -84,7 +84,8 @@ pub record AssignLeads (rules : Rules) (users : List (List ℕ)) (needs : List N
   pub meets : Meets new needs
   pub kept : (i : ℕ) → meets.to i ≡ to i
 
-pub assign_leads : (rules : Rules) → AreSeniors rules.order → (users : List (List ℕ)) (needs : List Need) (ob : AssignObligation rules needs) (f : Meets users (assign_pre_image ob))
+pub assign_leads : (rules : Rules) → AreSeniors rules.order → (users : List (List ℕ)) (needs : List Need) (ob : AssignObligation rules needs)
+    (f : Meets users (assign_pre_image ob))
     → AssignLeads rules users needs (f.to (admin_place ob.pick ob.target (length needs))) (f.to ob.target) ob.role f.to
 assign_leads rules same users needs ob f = record {
   new = slice_set users (f.to ob.target) (with_role o.set ob.role);
@@ -96,7 +97,8 @@ assign_leads rules same users needs ob f = record {
     lets = some_one_at (LetsAssign user rules o.by o.set ob.role) rules.assign ob.rule ob.is_rule (record {
       in_range = ob.in_range;
       by_admin = common_member rules.order same o.by ob.rule.admin o.common;
-      meets = met_conjunct rules.order same o.set (term_of ob.rule.cond) (some_one_at (λ c. MeetsNeed c o.set) (conjuncts rules.order (term_of ob.rule.cond)) ob.conjunct ob.is_conjunct g.1);
+      meets = met_conjunct rules.order same o.set (term_of ob.rule.cond)
+          (some_one_at (λ c. MeetsNeed c o.set) (conjuncts rules.order (term_of ob.rule.cond)) ob.conjunct ob.is_conjunct g.1);
     });
     free = inr g.2;
     gives = refl;
@@ -105,7 +107,8 @@ assign_leads rules same users needs ob f = record {
   kept = later.1;
 }
   where
-    o : Opened users needs (seniors_of rules.order ob.rule.admin) ob.before ob.need (f.to (admin_place ob.pick ob.target (length needs))) (f.to ob.target) f.to
+    o : Opened users needs (seniors_of rules.order ob.rule.admin) ob.before ob.need (f.to (admin_place ob.pick ob.target (length needs)))
+        (f.to ob.target) f.to
     o = opened users needs ob.target ob.need ob.before ob.pick (seniors_of rules.order ob.rule.admin) ob.need_is ob.is_pick f
 
     g : MeetsNeed ob.need (with_role o.set ob.role) × MeetsNeed ob.conjunct o.set × (Some_of (Blocks rules.order.edges o.set ob.role) rules.exclusive → ⊥)
@@ -120,7 +123,8 @@ pub record WeakLeads (rules : Rules) (users : List (List ℕ)) (needs : List Nee
   pub meets : Meets new needs
   pub kept : (i : ℕ) → meets.to i ≡ to i
 
-pub weak_leads : (rules : Rules) → AreSeniors rules.order → (users : List (List ℕ)) (needs : List Need) (ob : WeakObligation rules needs) (f : Meets users (weak_pre_image ob))
+pub weak_leads : (rules : Rules) → AreSeniors rules.order → (users : List (List ℕ)) (needs : List Need) (ob : WeakObligation rules needs)
+    (f : Meets users (weak_pre_image ob))
     → WeakLeads rules users needs (f.to (admin_place ob.pick ob.target (length needs))) (f.to ob.target) ob.role f.to
 weak_leads rules same users needs ob f = record {
   new = slice_set users (f.to ob.target) (without_role o.set ob.role);
@@ -139,7 +143,8 @@ weak_leads rules same users needs ob f = record {
   kept = later.1;
 }
   where
-    o : Opened users needs (seniors_of rules.order ob.rule.admin) ob.before ob.need (f.to (admin_place ob.pick ob.target (length needs))) (f.to ob.target) f.to
+    o : Opened users needs (seniors_of rules.order ob.rule.admin) ob.before ob.need (f.to (admin_place ob.pick ob.target (length needs)))
+        (f.to ob.target) f.to
     o = opened users needs ob.target ob.need ob.before ob.pick (seniors_of rules.order ob.rule.admin) ob.need_is ob.is_pick f
 
     later : (m : Meets (slice_set users (f.to ob.target) (without_role o.set ob.role)) needs) × ((i : ℕ) → m.to i ≡ f.to i)
@@ -153,11 +158,13 @@ pub record AtUser (users : List (List ℕ)) (needs : List Need) (set new : List 
   pub meets : MeetsNeed need new
   pub put : (before : Need) → MeetsNeed before set → Meets users (slice_set needs target before)
 
-pub touched : (users : List (List ℕ)) (needs : List Need) (p : ℕ) (set new : List ℕ) → slice_get users p ≡ Some set → Meets (slice_set users p new) needs
+pub touched : (users : List (List ℕ)) (needs : List Need) (p : ℕ) (set new : List ℕ) → slice_get users p ≡ Some set
+    → Meets (slice_set users p new) needs
     → Meets users needs ⊎ AtUser users needs set new
 touched users needs p set new set_is f = by_found (find_place f.to p (length needs))
   where
-    by_found : ((t : ℕ) × (t < length needs) × (f.to t ≡ p)) ⊎ ((i : ℕ) → i < length needs → f.to i ≡ p → ⊥) → Meets users needs ⊎ AtUser users needs set new
+    by_found : ((t : ℕ) × (t < length needs) × (f.to t ≡ p)) ⊎ ((i : ℕ) → i < length needs → f.to i ≡ p → ⊥) → Meets users needs
+        ⊎ AtUser users needs set new
     by_found (inr none) = inl (untouched users needs p new f none)
     by_found (inl found) =
         let need = get_there needs found.0 found.1 in
@@ -174,10 +181,12 @@ touched users needs p set new set_is f = by_found (find_place f.to p (length nee
         })
 
 -- the need itself is met by the old set
-pub put_back : (users : List (List ℕ)) (needs : List Need) (set new : List ℕ) (h : AtUser users needs set new) → MeetsNeed h.need set → Meets users needs
+pub put_back : (users : List (List ℕ)) (needs : List Need) (set new : List ℕ) (h : AtUser users needs set new) → MeetsNeed h.need set
+    → Meets users needs
 put_back users needs set new h m = subst (λ n. Meets users n) (set_itself needs h.target h.need h.need_is) (h.put h.need m)
 
-pub before_assign_step : (rules : Rules) → AreSeniors rules.order → (old new : List (List ℕ)) (admin target role : ℕ) (needs : List Need) → AssignStep user rules old old admin target role new → Meets new needs
+pub before_assign_step : (rules : Rules) → AreSeniors rules.order → (old new : List (List ℕ)) (admin target role : ℕ) (needs : List Need)
+    → AssignStep user rules old old admin target role new → Meets new needs
     → Meets old needs ⊎ ((ob : AssignObligation rules needs) × Meets old (assign_pre_image ob))
 before_assign_step rules same old new admin target role needs step met =
     by_user (touched old needs target step.set (with_role step.set role) step.set_is (subst (λ n. Meets n needs) step.gives met))
@@ -186,14 +195,17 @@ before_assign_step rules same old new admin target role needs step met =
     rule = some_item (LetsAssign user rules step.by step.set role) rules.assign step.lets
 
     conjunct : (c : Need) × IsOneOf (conjuncts rules.order (term_of rule.0.cond)) c × MeetsNeed c step.set
-    conjunct = some_item (λ c. MeetsNeed c step.set) (conjuncts rules.order (term_of rule.0.cond)) (conjunct_met rules.order same step.set (term_of rule.0.cond) rule.2.meets)
+    conjunct = some_item (λ c. MeetsNeed c step.set) (conjuncts rules.order (term_of rule.0.cond))
+        (conjunct_met rules.order same step.set (term_of rule.0.cond) rule.2.meets)
 
-    by_user : Meets old needs ⊎ AtUser old needs step.set (with_role step.set role) → Meets old needs ⊎ ((ob : AssignObligation rules needs) × Meets old (assign_pre_image ob))
+    by_user : Meets old needs ⊎ AtUser old needs step.set (with_role step.set role) → Meets old needs
+        ⊎ ((ob : AssignObligation rules needs) × Meets old (assign_pre_image ob))
     by_user (inl m) = inl m
     by_user (inr h) = by_free step.free (cases_wanted role h.need.hits)
       where
         by_free : IsIn step.set role ⊎ (Some_of (Blocks rules.order.edges step.set role) rules.exclusive → ⊥)
-            → Some_of (λ hit. IsIn hit role) h.need.hits ⊎ (Some_of (λ hit. IsIn hit role) h.need.hits → ⊥) → Meets old needs ⊎ ((ob : AssignObligation rules needs) × Meets old (assign_pre_image ob))
+            → Some_of (λ hit. IsIn hit role) h.need.hits ⊎ (Some_of (λ hit. IsIn hit role) h.need.hits → ⊥) → Meets old needs
+            ⊎ ((ob : AssignObligation rules needs) × Meets old (assign_pre_image ob))
         by_free (inl held) wanted = inl (put_back old needs step.set (with_role step.set role) h (given_kept h.need role step.set (inl held) h.meets))
         by_free (inr free) (inr none) = inl (put_back old needs step.set (with_role step.set role) h (given_kept h.need role step.set (inr none) h.meets))
         by_free (inr free) (inl wanted) =
@@ -220,7 +232,8 @@ before_assign_step rules same old new admin target role needs step met =
               a.2,
             )
 
-pub before_weak_step : (rules : Rules) → AreSeniors rules.order → (old new : List (List ℕ)) (admin target role : ℕ) (needs : List Need) → WeakStep user rules old old admin target role new → Meets new needs
+pub before_weak_step : (rules : Rules) → AreSeniors rules.order → (old new : List (List ℕ)) (admin target role : ℕ) (needs : List Need)
+    → WeakStep user rules old old admin target role new → Meets new needs
     → Meets old needs ⊎ ((ob : WeakObligation rules needs) × Meets old (weak_pre_image ob))
 before_weak_step rules same old new admin target role needs step met =
     by_user (touched old needs target step.set (without_role step.set role) step.set_is (subst (λ n. Meets n needs) step.gives met))
@@ -228,11 +241,13 @@ before_weak_step rules same old new admin target role needs step met =
     rule : (r : CanRevoke) × IsOneOf rules.revoke r × LetsRevoke rules step.by role r
     rule = some_item (LetsRevoke rules step.by role) rules.revoke step.lets
 
-    by_user : Meets old needs ⊎ AtUser old needs step.set (without_role step.set role) → Meets old needs ⊎ ((ob : WeakObligation rules needs) × Meets old (weak_pre_image ob))
+    by_user : Meets old needs ⊎ AtUser old needs step.set (without_role step.set role) → Meets old needs
+        ⊎ ((ob : WeakObligation rules needs) × Meets old (weak_pre_image ob))
     by_user (inl m) = inl m
     by_user (inr h) = by_wanted (cases_in h.need.lacks role)
       where
-        by_wanted : IsIn h.need.lacks role ⊎ IsOut h.need.lacks role → Meets old needs ⊎ ((ob : WeakObligation rules needs) × Meets old (weak_pre_image ob))
+        by_wanted : IsIn h.need.lacks role ⊎ IsOut h.need.lacks role → Meets old needs
+            ⊎ ((ob : WeakObligation rules needs) × Meets old (weak_pre_image ob))
         by_wanted (inr out) = inl (put_back old needs step.set (without_role step.set role) h (taken_kept h.need role step.set out h.meets))
         by_wanted (inl wanted) =
             let b = before_taken h.need role step.set h.meets in

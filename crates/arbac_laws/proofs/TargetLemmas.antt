@@ -1,5 +1,6 @@
 -- What one user's set meets before and after it is given a role or loses one.
-use Rattle.std.proofs.Common.{ℕ, ◌≡◌, List, [], ◌∷◌, ◌++◌, map, Some, sym, ◌∙◌, ap, Bool, true, false, not, ◌||◌, ◌&&◌, cond, subst, refl, inl, inr}
+use Rattle.std.proofs.Common.{ℕ, ◌≡◌, List, [], ◌∷◌, ◌++◌, map, Some, sym, ◌∙◌, ap, Bool, true, false, not, ◌||◌, ◌&&◌, cond}
+use Rattle.std.proofs.Common.{subst, refl, inl, inr}
 use Rattle.std.specs.Prelude.{◌⊎◌, filter}
 use Rattle.role_order.specs.Graph.{Graph, Leads}
 use Rattle.list_words.specs.Lists.{Some_of}
@@ -22,7 +23,8 @@ pub free_of_pairs : (order : Graph) → AreSeniors order → (set : List ℕ) (r
     → is_barred order role pairs ≡ false → AreApart (barred order role pairs) set → Some_of (Blocks order.edges set role) pairs → ⊥
 free_of_pairs order same set role [] e apart h = h
 free_of_pairs order same set role (pair ∷ pairs) e apart (inr h) =
-    free_of_pairs order same set role pairs (or_none (has_role (seniors_of order pair.0) role && has_role (seniors_of order pair.1) role) (is_barred order role pairs) e).1
+    free_of_pairs order same set role pairs (or_none (has_role (seniors_of order pair.0) role && has_role (seniors_of order pair.1) role)
+    (is_barred order role pairs) e).1
     (λ q k held. apart q (in_join_right (cond (has_role (seniors_of order pair.0) role) (seniors_of order pair.1) [])
     (join_roles (cond (has_role (seniors_of order pair.1) role) (seniors_of order pair.0) []) (barred order role pairs)) q
     (in_join_right (cond (has_role (seniors_of order pair.1) role) (seniors_of order pair.0) []) (barred order role pairs) q k)) held) h
@@ -42,17 +44,20 @@ free_of_pairs order same set role (pair ∷ pairs) e apart (inl h) =
       where
         by_case : (role ≡ m.0) ⊎ IsIn set m.0 → HaveCommon (seniors_of order x) set
         by_case (inr held) = (m.0, (same x m.0).1 m.2, held)
-        by_case (inl e) = let top : IsIn (seniors_of order x) m.0 = (same x m.0).1 m.2 in let top' : IsIn (seniors_of order x) role = ap (has_role (seniors_of order x)) e ∙ top in cc
+        by_case (inl e) = let top : IsIn (seniors_of order x) m.0 = (same x m.0).1 m.2 in
+            let top' : IsIn (seniors_of order x) role = ap (has_role (seniors_of order x)) e ∙ top in cc
 
     by_tests : (a b : Bool) → has_role (seniors_of order pair.0) role ≡ a → has_role (seniors_of order pair.1) role ≡ b → (a && b) ≡ false
-        → AreApart (cond a (seniors_of order pair.1) []) set → AreApart (cond b (seniors_of order pair.0) []) set → Leads order.edges role pair.0 ⊎ Leads order.edges role pair.1 → ⊥
+        → AreApart (cond a (seniors_of order pair.1) []) set → AreApart (cond b (seniors_of order pair.0) []) set → Leads order.edges role pair.0
+        ⊎ Leads order.edges role pair.1 → ⊥
     by_tests true true a b e f g l = cc
     by_tests true false a b e f g l = let c = was pair.1 b h.second in f c.0 c.1 c.2
     by_tests false true a b e f g l = let c = was pair.0 a h.first in g c.0 c.1 c.2
     by_tests false false a b e f g (inl l) = let top = (same pair.0 role).1 l in cc
     by_tests false false a b e f g (inr l) = let top = (same pair.1 role).1 l in cc
 
-pub free_pairs : (order : Graph) → AreSeniors order → (set : List ℕ) (role : ℕ) (pairs : List (ℕ × ℕ)) → (Some_of (Blocks order.edges set role) pairs → ⊥)
+pub free_pairs : (order : Graph) → AreSeniors order → (set : List ℕ) (role : ℕ) (pairs : List (ℕ × ℕ))
+    → (Some_of (Blocks order.edges set role) pairs → ⊥)
     → (is_barred order role pairs ≡ false) × AreApart (barred order role pairs) set
 free_pairs order same set role [] free = (refl, λ q k held. cc)
 free_pairs order same set role (pair ∷ pairs) free =
@@ -72,7 +77,8 @@ free_pairs order same set role (pair ∷ pairs) free =
         → is_barred order role pairs ≡ false → AreApart (barred order role pairs) set
         → (((a && b) || is_barred order role pairs) ≡ false)
         × AreApart (join_roles (cond a (seniors_of order pair.1) []) (join_roles (cond b (seniors_of order pair.0) []) (barred order role pairs))) set
-    by_tests true true a b none apart = absurd (free (inl (record { above = inl ((same pair.0 role).0 a); first = itself pair.0 a; second = itself pair.1 b })))
+    by_tests true true a b none apart =
+        absurd (free (inl (record { above = inl ((same pair.0 role).0 a); first = itself pair.0 a; second = itself pair.1 b })))
     by_tests true false a b none apart = (
       none,
       apart_join (seniors_of order pair.1) (barred order role pairs) set
@@ -87,16 +93,20 @@ free_pairs order same set role (pair ∷ pairs) free =
 
 -- giving
 
-pub hits_given : (set : List ℕ) (role : ℕ) (hits : List (List ℕ)) → HasHits set (filter (λ hit. not (has_role hit role)) hits) → HasHits (with_role set role) hits
+pub hits_given : (set : List ℕ) (role : ℕ) (hits : List (List ℕ)) → HasHits set (filter (λ hit. not (has_role hit role)) hits)
+    → HasHits (with_role set role) hits
 hits_given set role [] h = tt
 hits_given set role (hit ∷ hits) h = by_test (has_role hit role) refl h (hits_given set role hits)
   where
-    by_test : (t : Bool) → has_role hit role ≡ t → HasHits set (cond (not t) (hit ∷ filter (λ hit. not (has_role hit role)) hits) (filter (λ hit. not (has_role hit role)) hits))
-        → (HasHits set (filter (λ hit. not (has_role hit role)) hits) → HasHits (with_role set role) hits) → HaveCommon hit (with_role set role) × HasHits (with_role set role) hits
+    by_test : (t : Bool) → has_role hit role ≡ t
+        → HasHits set (cond (not t) (hit ∷ filter (λ hit. not (has_role hit role)) hits) (filter (λ hit. not (has_role hit role)) hits))
+        → (HasHits set (filter (λ hit. not (has_role hit role)) hits) → HasHits (with_role set role) hits) → HaveCommon hit (with_role set role)
+        × HasHits (with_role set role) hits
     by_test true e h rest = ((role, e, in_with_same set role), rest h)
     by_test false e h rest = ((h.0.0, h.0.1, in_with set role h.0.0 h.0.2), rest h.1)
 
-pub hits_ungiven : (set : List ℕ) (role : ℕ) (hits : List (List ℕ)) → HasHits (with_role set role) hits → HasHits set (filter (λ hit. not (has_role hit role)) hits)
+pub hits_ungiven : (set : List ℕ) (role : ℕ) (hits : List (List ℕ)) → HasHits (with_role set role) hits
+    → HasHits set (filter (λ hit. not (has_role hit role)) hits)
 hits_ungiven set role [] h = tt
 hits_ungiven set role (hit ∷ hits) h = by_test (has_role hit role) refl (hits_ungiven set role hits h.1)
   where
@@ -109,7 +119,8 @@ hits_ungiven set role (hit ∷ hits) h = by_test (has_role hit role) refl (hits_
         by_case (inr held) = (h.0.0, h.0.1, held)
         by_case (inl same) = let there : has_role hit role ≡ true = ap (has_role hit) same ∙ h.0.1 in cc
 
-pub given : (rules : Rules) → AreSeniors rules.order → (conjunct need before : Need) (role : ℕ) (set : List ℕ) → before_assign rules conjunct role need ≡ Some before → MeetsNeed before set
+pub given : (rules : Rules) → AreSeniors rules.order → (conjunct need before : Need) (role : ℕ) (set : List ℕ)
+    → before_assign rules conjunct role need ≡ Some before → MeetsNeed before set
     → MeetsNeed need (with_role set role) × MeetsNeed conjunct set × (Some_of (Blocks rules.order.edges set role) rules.exclusive → ⊥)
 given rules same conjunct need before role set e m0 = (
   record {
@@ -143,14 +154,18 @@ given rules same conjunct need before role set e m0 = (
     by_case q k (inr held) = m.lacks q (in_join_left need.lacks more q k) held
     by_case q k (inl e) = let there : has_role need.lacks role ≡ true = ap (has_role need.lacks) e ∙ k in let none = tests.0 in cc
 
-pub before_given : (rules : Rules) → AreSeniors rules.order → (conjunct need : Need) (role : ℕ) (set : List ℕ) → MeetsNeed need (with_role set role) → MeetsNeed conjunct set
-    → (Some_of (Blocks rules.order.edges set role) rules.exclusive → ⊥) → (before : Need) × (before_assign rules conjunct role need ≡ Some before) × MeetsNeed before set
+pub before_given : (rules : Rules) → AreSeniors rules.order → (conjunct need : Need) (role : ℕ) (set : List ℕ)
+    → MeetsNeed need (with_role set role) → MeetsNeed conjunct set
+    → (Some_of (Blocks rules.order.edges set role) rules.exclusive → ⊥) → (before : Need) × (before_assign rules conjunct role need ≡ Some before)
+    × MeetsNeed before set
 before_given rules same conjunct need role set m c free = (
   made,
   rw (not_lacked, pairs.0) refl,
   record {
-    hits = each_append (λ hit. HaveCommon hit set) (filter (λ hit. not (has_role hit role)) need.hits) conjunct.hits (hits_ungiven set role need.hits m.hits) c.hits;
-    lacks = apart_join need.lacks more set (λ q k held. m.lacks q k (in_with set role q held)) (apart_join conjunct.lacks (barred rules.order role rules.exclusive) set c.lacks pairs.1);
+    hits = each_append (λ hit. HaveCommon hit set) (filter (λ hit. not (has_role hit role)) need.hits) conjunct.hits
+        (hits_ungiven set role need.hits m.hits) c.hits;
+    lacks = apart_join need.lacks more set (λ q k held. m.lacks q k (in_with set role q held))
+        (apart_join conjunct.lacks (barred rules.order role rules.exclusive) set c.lacks pairs.1);
   },
 )
   where
@@ -172,7 +187,8 @@ before_given rules same conjunct need role set m c free = (
 
 -- a role that was held, or that no hit has, makes no difference
 
-pub hits_kept : (set : List ℕ) (role : ℕ) (hits : List (List ℕ)) → IsIn set role ⊎ (Some_of (λ hit. IsIn hit role) hits → ⊥) → HasHits (with_role set role) hits → HasHits set hits
+pub hits_kept : (set : List ℕ) (role : ℕ) (hits : List (List ℕ)) → IsIn set role ⊎ (Some_of (λ hit. IsIn hit role) hits → ⊥)
+    → HasHits (with_role set role) hits → HasHits set hits
 hits_kept set role [] why h = tt
 hits_kept set role (hit ∷ hits) why h = (by_case (with_cases set role h.0.0 h.0.2) why, hits_kept set role hits (rest why) h.1)
   where
@@ -185,18 +201,21 @@ hits_kept set role (hit ∷ hits) why h = (by_case (with_cases set role h.0.0 h.
     by_case (inl same) (inl held) = (role, ap (has_role hit) same ∙ h.0.1, held)
     by_case (inl same) (inr none) = absurd (none (inl (ap (has_role hit) same ∙ h.0.1)))
 
-pub given_kept : (need : Need) (role : ℕ) (set : List ℕ) → IsIn set role ⊎ (Some_of (λ hit. IsIn hit role) need.hits → ⊥) → MeetsNeed need (with_role set role) → MeetsNeed need set
+pub given_kept : (need : Need) (role : ℕ) (set : List ℕ) → IsIn set role ⊎ (Some_of (λ hit. IsIn hit role) need.hits → ⊥)
+    → MeetsNeed need (with_role set role) → MeetsNeed need set
 given_kept need role set why m = record { hits = hits_kept set role need.hits why m.hits; lacks = λ q k held. m.lacks q k (in_with set role q held) }
 
 -- taking
 
-pub hits_taken : (set : List ℕ) (role : ℕ) (hits : List (List ℕ)) → HasHits set (map (λ hit. without_role hit role) hits) → HasHits (without_role set role) hits
+pub hits_taken : (set : List ℕ) (role : ℕ) (hits : List (List ℕ)) → HasHits set (map (λ hit. without_role hit role) hits)
+    → HasHits (without_role set role) hits
 hits_taken set role [] h = tt
 hits_taken set role (hit ∷ hits) h =
     let r = without_in hit role h.0.0 h.0.1 in
     ((h.0.0, r.0, in_without set role h.0.0 h.0.2 r.1), hits_taken set role hits h.1)
 
-pub hits_untaken : (set : List ℕ) (role : ℕ) (hits : List (List ℕ)) → HasHits (without_role set role) hits → HasHits set (map (λ hit. without_role hit role) hits) × (has_alone role hits ≡ false)
+pub hits_untaken : (set : List ℕ) (role : ℕ) (hits : List (List ℕ)) → HasHits (without_role set role) hits
+    → HasHits set (map (λ hit. without_role hit role) hits) × (has_alone role hits ≡ false)
 hits_untaken set role [] h = (tt, refl)
 hits_untaken set role (hit ∷ hits) h =
     let r = without_in set role h.0.0 h.0.2 in
@@ -208,7 +227,8 @@ hits_untaken set role (hit ∷ hits) h =
     filled [] q k = cc
     filled (x ∷ xs) q k = refl
 
-pub taken : (need before : Need) (role : ℕ) (set : List ℕ) → before_weak role need ≡ Some before → MeetsNeed before set → MeetsNeed need (without_role set role)
+pub taken : (need before : Need) (role : ℕ) (set : List ℕ) → before_weak role need ≡ Some before → MeetsNeed before set
+    → MeetsNeed need (without_role set role)
 taken need before role set e m0 = record {
   hits = hits_taken set role need.hits m.hits;
   lacks = λ q k held. let r = without_in set role q held in m.lacks q (in_without need.lacks role q k r.1) r.0;
@@ -220,7 +240,8 @@ taken need before role set e m0 = record {
     m : MeetsNeed made set
     m = subst (λ n. MeetsNeed n set) (sym (some_cond (has_alone role need.hits) made before e).1) m0
 
-pub before_taken : (need : Need) (role : ℕ) (set : List ℕ) → MeetsNeed need (without_role set role) → (before : Need) × (before_weak role need ≡ Some before) × MeetsNeed before set
+pub before_taken : (need : Need) (role : ℕ) (set : List ℕ) → MeetsNeed need (without_role set role) → (before : Need)
+    × (before_weak role need ≡ Some before) × MeetsNeed before set
 before_taken need role set m =
     let r = hits_untaken set role need.hits m.hits in (
       record { hits = map (λ hit. without_role hit role) need.hits; lacks = without_role need.lacks role },
@@ -229,7 +250,8 @@ before_taken need role set m =
     )
 
 pub taken_kept : (need : Need) (role : ℕ) (set : List ℕ) → IsOut need.lacks role → MeetsNeed need (without_role set role) → MeetsNeed need set
-taken_kept need role set out m = record { hits = hits_more need.hits m.hits; lacks = λ q k held. m.lacks q k (in_without set role q held (λ e. differ q k e)) }
+taken_kept need role set out m =
+    record { hits = hits_more need.hits m.hits; lacks = λ q k held. m.lacks q k (in_without set role q held (λ e. differ q k e)) }
   where
     differ : (q : ℕ) → IsIn need.lacks q → q ≡ role → ⊥
     differ q k e = let there : has_role need.lacks role ≡ true = ap (has_role need.lacks) (sym e) ∙ k in cc

@@ -1,11 +1,15 @@
 pub mod Needs
+pub mod Views
 pub mod Conjuncts
 pub mod Goals
 pub mod PreImages
 pub mod Obligations
+pub mod Listings
 pub mod Orders
 pub mod NormalForms
 pub mod Closed
+pub mod Serving
 pub mod Recorded
+pub mod Relevance
 pub mod Barriers
 pub mod Rows

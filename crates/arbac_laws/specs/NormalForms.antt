@@ -1,5 +1,6 @@
 -- The normal form of a requirement.
-use Rattle.std.specs.Prelude.{ℕ, ◌≡◌, ◌<◌, Bool, ◌&&◌, not, if◌then◌else◌, List, [], ◌∷◌, map, filter, length, get_or, slice_get, Some, None, Option}
+use Rattle.std.specs.Prelude.{ℕ, ◌≡◌, ◌<◌, Bool, ◌&&◌, not, if◌then◌else◌, List, [], ◌∷◌, map, filter, length, get_or, slice_get}
+use Rattle.std.specs.Prelude.{Some, None, Option}
 use Rattle.std.specs.List.{list_any}
 use Rattle.list_words.specs.Lists.{Each}
 use Rattle.role_order.specs.Roles.{is_within, less_roles, IsIn, IsWithin, AreApart, Rises}

@@ -1,5 +1,6 @@
 -- Obligations: the acts after which a requirement may be met, in their order, and what each wants before it.
-use Rattle.std.specs.Prelude.{ℕ, ◌≡◌, ◌+◌, ◌==◌, Bool, true, false, ◌&&◌, not, List, [], ◌∷◌, ◌++◌, map, filter, length, slice_get, slice_set, Some, None, Option}
+use Rattle.std.specs.Prelude.{ℕ, ◌≡◌, ◌+◌, ◌==◌, Bool, true, false, ◌&&◌, not, List, [], ◌∷◌, ◌++◌, map, filter, length}
+use Rattle.std.specs.Prelude.{slice_get, slice_set, Some, None, Option}
 use Rattle.std.specs.List.{list_any}
 use Rattle.list_words.specs.Lists.{Some_of}
 use Rattle.role_order.specs.Roles.{has_role}
@@ -25,14 +26,17 @@ abbrev pub kind_of : Obligation → ActKind
 kind_of (assigns rule conjunct role target pick) = Assign
 kind_of (revokes rule role target pick) = Weak
 
+-- the role that the act gives or takes
 abbrev pub role_of : Obligation → ℕ
 role_of (assigns rule conjunct role target pick) = role
 role_of (revokes rule role target pick) = role
 
+-- the user of the requirement who is the target
 abbrev pub target_of : Obligation → ℕ
 target_of (assigns rule conjunct role target pick) = target
 target_of (revokes rule role target pick) = target
 
+-- who administers
 abbrev pub pick_of : Obligation → Pick
 pick_of (assigns rule conjunct role target pick) = pick
 pick_of (revokes rule role target pick) = pick

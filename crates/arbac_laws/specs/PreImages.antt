@@ -1,5 +1,6 @@
 -- Pre-images: what a population must meet before an act, so that it meets a requirement after it.
-use Rattle.std.specs.Prelude.{ℕ, zero, suc, ◌≡◌, ◌<◌, Bool, true, false, ◌||◌, ◌&&◌, not, if◌then◌else◌, List, [], ◌∷◌, ◌++◌, map, filter, length, slice_get, slice_set, Some, None, Option}
+use Rattle.std.specs.Prelude.{ℕ, zero, suc, ◌≡◌, ◌<◌, Bool, true, false, ◌||◌, ◌&&◌, not, if◌then◌else◌, List, [], ◌∷◌}
+use Rattle.std.specs.Prelude.{◌++◌, map, filter, length, slice_get, slice_set, Some, None, Option}
 use Rattle.list_words.specs.Lists.{Some_of, IsOneOf}
 use Rattle.role_order.specs.Roles.{has_role, without_role, join_roles, IsIn}
 use Rattle.role_order.specs.Graph.{Graph}

@@ -15,6 +15,7 @@ pub data Origin : Type 0 where
   of_goal : ℕ → Origin
   of_parent : ℕ → Obligation → Origin
 
+-- a requirement with its origin
 pub record Entry : Type 0 where
   pub origin : Origin
   pub needs : List Need

@@ -1,19 +1,23 @@
 //! Small policies, worked.
 
-ghost use Rattle.std.specs.Prelude.{[], ◌∷◌, ◌≡◌, length, Some, None};
+ghost use Rattle.std.specs.Prelude.{[], ◌∷◌, ◌≡◌, length, Some, None, true, false};
 ghost use Rattle.list_words.specs.Lists.{Each};
-ghost use Rattle.arbac_policy.specs.Truth.{has, lacks, both};
+ghost use Rattle.arbac_policy.specs.Truth.{has, lacks, both, either};
 ghost use Rattle.arbac_policy.specs.Goals.{IsReachable};
 ghost use Rattle.arbac_laws.specs.Needs.{Meets, Covers};
 ghost use Rattle.arbac_laws.specs.Conjuncts.{conjuncts};
 ghost use Rattle.arbac_laws.specs.Goals.{goal_requirements};
 ghost use Rattle.arbac_laws.specs.PreImages.{itself, other, fresh};
 ghost use Rattle.arbac_laws.specs.Obligations.{assigns, revokes, obligations, pre_image};
+ghost use Rattle.arbac_laws.specs.Listings.{IsObligation, obligation_before};
 ghost use Rattle.arbac_laws.specs.NormalForms.{normal_form, pre_form, AreFormPlaces};
 ghost use Rattle.arbac_laws.specs.Closed.{IsClosedList};
+ghost use Rattle.arbac_laws.specs.Serving.{IsServed, Serves, ServesLeast, counts, AreServing, AreUnserved};
 ghost use Rattle.arbac_laws.specs.Recorded.{IsRecordedList};
-ghost use Rattle.arbac_laws.specs.Barriers.{IsCeiling, barriers};
-ghost use Rattle.arbac_laws.specs.Rows.{mix, mix_apart, pair_policy, giver_policy, senior_policy, adm, c, d, one_admin, two_admins, mix_needs, mix_entries};
+ghost use Rattle.arbac_laws.specs.Relevance.{HasNeed, HasAssign, HasRevoke, IsClosedSlice, IsPart, IsRelevance, IsRelevant, IsDerived};
+ghost use Rattle.arbac_laws.specs.Barriers.{IsCeiling, HasGivenRoles, may_hold, may_give, barriers};
+ghost use Rattle.arbac_laws.specs.Rows.{mix, mix_rule, mix_apart, pair_policy, giver_policy, senior_policy, adm, c, d, one_admin, two_admins, many_admins};
+ghost use Rattle.arbac_laws.specs.Rows.{mix_needs, mix_entries, mix_revoke, mix_slice, adm_slice};
 ghost use Rattle.arbac_laws.specs.Rows.{hits, hits_either, hits_both, hits_without, without, anyone, untidy};
 
 /// The goal c of a policy where members of adm give c to those without adm, and take adm away: its
@@ -71,6 +75,17 @@ pub fn listing_rows()
         revokes 0 d 0 itself ∷ revokes 0 d 0 (other 1) ∷ revokes 0 d 0 fresh ∷ [] }
 {}
 
+/// The first of two users may have to give c to the second, and nobody is another user to itself; d is
+/// taken from whose lacks have it alone. Assignments come first, and a new administrator last.
+pub fn obligation_rows()
+    ensures assigned { IsObligation giver_policy (hits_without c d ∷ hits c ∷ []) (assigns 0 1 c 1 (other 0)) }
+    ensures itself { ¬ IsObligation giver_policy (hits_without c d ∷ hits c ∷ []) (assigns 0 1 c 1 (other 1)) }
+    ensures revoked { IsObligation giver_policy (hits_without c d ∷ hits c ∷ []) (revokes 0 d 0 fresh) }
+    ensures not_barred { ¬ IsObligation giver_policy (hits_without c d ∷ hits c ∷ []) (revokes 0 d 1 fresh) }
+    ensures first { obligation_before (assigns 1 0 c 1 fresh) (revokes 0 d 0 itself) ≡ true }
+    ensures last { obligation_before (assigns 0 0 c 0 fresh) (assigns 0 0 c 0 (other 1)) ≡ false }
+{}
+
 /// Who is above a role counts for it: in a goal, where it is barred, in a range, in a condition and as
 /// administrator.
 pub fn senior_rows()
@@ -114,6 +129,61 @@ pub fn cover_rows()
 pub fn closed_row()
     ensures closed { IsClosedList mix one_admin (has c ∷ []) mix_needs }
     ensures unreachable { ¬ IsReachable mix one_admin (has c ∷ []) }
+{}
+
+/// Who has adm may have what `adm` wants, and who has nothing what `not adm` wants; by the rule of adm only
+/// members of adm give. With a user of adm, adm alone isn't all that is given.
+pub fn gain_rows()
+    ensures held { may_hold mix.order (adm ∷ []) (both (has adm) (lacks c)) ≡ true }
+    ensures not_held { may_hold mix.order (c ∷ []) (either (has adm) (both (lacks c) (has adm))) ≡ false }
+    ensures gives { may_give mix.order (adm ∷ []) mix_rule ≡ true }
+    ensures not_given { may_give mix.order (c ∷ []) mix_rule ≡ false }
+    ensures all { HasGivenRoles mix one_admin (adm ∷ c ∷ []) }
+    ensures not_all { ¬ HasGivenRoles mix one_admin (adm ∷ []) }
+{}
+
+/// From two users of adm a run reaches the goal: one of them takes adm from the other and gives it c.
+pub fn reached_row()
+    ensures { IsReachable mix two_admins (has c ∷ []) }
+{}
+
+/// For c both rules matter, adm is wanted of who gives it and barred from who gets it; for adm no rule does.
+/// Where c excludes d, d has to be barred too.
+pub fn relevance_rows()
+    ensures need { HasNeed mix_slice (hits c) }
+    ensures no_need { ¬ HasNeed mix_slice (without c) }
+    ensures assign { HasAssign mix mix_slice 0 mix_rule c }
+    ensures no_assign { ¬ HasAssign mix adm_slice 0 mix_rule c }
+    ensures apart { ¬ HasAssign (mix_apart ((c, d) ∷ [])) mix_slice 0 mix_rule c }
+    ensures revoke { HasRevoke mix mix_slice 0 mix_revoke }
+    ensures no_revoke { ¬ HasRevoke mix adm_slice 0 mix_revoke }
+    ensures closed { IsClosedSlice mix (has c ∷ []) mix_slice }
+    ensures not_closed { ¬ IsClosedSlice mix (has c ∷ []) adm_slice }
+    ensures part { IsPart adm_slice mix_slice }
+    ensures no_part { ¬ IsPart mix_slice adm_slice }
+    ensures least { IsRelevance mix (has c ∷ []) mix_slice }
+    ensures least_of_adm { IsRelevance mix (has adm ∷ []) adm_slice }
+    ensures not_least { ¬ IsRelevance mix (has adm ∷ []) mix_slice }
+    ensures rule { IsRelevant mix_slice (assigns 0 0 c 0 fresh) }
+    ensures no_rule { ¬ IsRelevant adm_slice (assigns 0 0 c 0 fresh) }
+    ensures derived { IsDerived mix (has c ∷ []) (without adm ∷ hits adm ∷ []) }
+    ensures not_derived { ¬ IsDerived mix (has adm ∷ []) (hits c ∷ []) }
+{}
+
+/// One user of adm serves a need for adm, but not two, nor one for c; of two ways to serve, the one with the
+/// lesser profile is the least; and two users are unserved where there is one.
+pub fn serving_rows()
+    ensures served { IsServed one_admin (hits adm) 0 }
+    ensures not_served { ¬ IsServed one_admin (hits c) 0 }
+    ensures once { Serves one_admin (hits adm ∷ []) (0 ∷ []) }
+    ensures not_twice { ¬ Serves one_admin (hits adm ∷ hits adm ∷ []) (0 ∷ 0 ∷ []) }
+    ensures least { ServesLeast many_admins (hits adm ∷ []) (0 ∷ []) }
+    ensures not_least { ¬ ServesLeast many_admins (hits adm ∷ []) (1 ∷ []) }
+    ensures limited { counts many_admins ≡ Some 1 ∷ None ∷ [] }
+    ensures pairs { AreServing one_admin (hits adm ∷ hits c ∷ []) ((0, 0) ∷ []) }
+    ensures no_pairs { ¬ AreServing one_admin (hits adm ∷ []) [] }
+    ensures unserved { AreUnserved one_admin (hits adm ∷ hits adm ∷ []) (0 ∷ 1 ∷ []) }
+    ensures not_unserved { ¬ AreUnserved one_admin (hits adm ∷ []) (0 ∷ []) }
 {}
 
 /// What two users of adm don't meet at first, recorded with its origins.

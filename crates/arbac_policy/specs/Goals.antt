@@ -23,7 +23,8 @@ AreUsers profiles (place ∷ choice) (set ∷ users) =
 -- the choice names profiles, none of them beyond its count
 pub record IsDrawnChoice (profiles : List Profile) (choice : List ℕ) : Type 0 where
   pub places : (k place : ℕ) → slice_get choice k ≡ Some place → (profile : Profile) × (slice_get profiles place ≡ Some profile)
-  pub few : (place : ℕ) (profile : Profile) (most : ℕ) → slice_get profiles place ≡ Some profile → profile.most ≡ Some most → times place choice ≤ most
+  pub few : (place : ℕ) (profile : Profile) (most : ℕ) → slice_get profiles place ≡ Some profile → profile.most ≡ Some most
+      → times place choice ≤ most
 
 -- the population of a drawn choice
 pub record IsDrawn (profiles : List Profile) (users : List (List ℕ)) : Type 0 where

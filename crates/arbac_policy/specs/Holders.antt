@@ -9,10 +9,12 @@ use Rattle.arbac_policy.specs.declared.holder.On.TheVariants.{User, Permission}
 use Rattle.arbac_policy.specs.Truth.{Holder}
 use Rattle.arbac_policy.specs.Rules.{Rules}
 
+-- the rules that give roles to such holders
 abbrev pub assign_rules : Holder → Rules → List CanAssign
 assign_rules User rules = rules.assign
 assign_rules Permission rules = rules.assignp
 
+-- the rules that take roles from such holders
 abbrev pub revoke_rules : Holder → Rules → List CanRevoke
 revoke_rules User rules = rules.revoke
 revoke_rules Permission rules = rules.revokep

@@ -1,5 +1,6 @@
 pub mod Truth
 pub mod Rules
+pub mod PlainRules
 pub mod Policies
 pub mod Holders
 pub mod Steps

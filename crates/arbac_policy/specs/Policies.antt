@@ -2,6 +2,7 @@
 use Rattle.arbac_policy.specs.declared.policy.Policy.TheInside.{Inside}
 use Rattle.arbac_policy.specs.Rules.{Rules}
 
+-- what a kept policy is seen as
 abbrev pub rules_of : Inside → Rules
 rules_of p = record {
   order = p.order;

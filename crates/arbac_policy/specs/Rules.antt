@@ -7,6 +7,7 @@ use Rattle.arbac_policy.specs.declared.rule.CanAssign.{CanAssign}
 use Rattle.arbac_policy.specs.declared.rule.CanRevoke.{CanRevoke}
 use Rattle.arbac_policy.specs.Truth.{term_of, IsKnown}
 
+-- a role order, the rules that give and take roles of users and of permissions, and the exclusive pairs
 pub record Rules : Type 0 where
   pub order : Graph
   pub assign : List CanAssign
@@ -36,10 +37,12 @@ pub record IsKnownAssign (count : ℕ) (rule : CanAssign) : Type 0 where
   pub cond : IsKnown count (term_of rule.cond)
   pub range : IsKnownRange count rule.range
 
+-- each number in the rule is a role
 pub record IsKnownRevoke (count : ℕ) (rule : CanRevoke) : Type 0 where
   pub admin : rule.admin < count
   pub range : IsKnownRange count rule.range
 
+-- both are roles
 abbrev pub IsKnownPair : ℕ → ℕ × ℕ → Type 0
 IsKnownPair count pair = (pair.0 < count) × (pair.1 < count)
 

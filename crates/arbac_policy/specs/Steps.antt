@@ -40,6 +40,7 @@ pub record AssignStep (holder : Holder) (rules : Rules) (users old : List (List 
   pub free : IsIn set role ⊎ (¬ Some_of (Blocks rules.order.edges set role) (pairs_of holder rules))
   pub gives : new ≡ slice_set old target (with_role set role)
 
+-- some rule lets the administrator, and the target loses the role, whether it holds it or not; all others stay as they are
 pub record WeakStep (holder : Holder) (rules : Rules) (users old : List (List ℕ)) (admin target role : ℕ) (new : List (List ℕ)) : Type 0 where
   pub by : List ℕ
   pub by_is : slice_get users admin ≡ Some by
@@ -52,7 +53,8 @@ pub record WeakStep (holder : Holder) (rules : Rules) (users old : List (List �
 abbrev pub WeakSteps : Holder → Rules → List (List ℕ) → List (List ℕ) → ℕ → ℕ → List ℕ → List (List ℕ) → Type 0
 WeakSteps holder rules users old admin target [] new = new ≡ old
 WeakSteps holder rules users old admin target (role ∷ roles) new =
-    (mid : List (List ℕ)) × WeakStep holder rules (admins_of holder users old) old admin target role mid × WeakSteps holder rules users mid admin target roles new
+    (mid : List (List ℕ)) × WeakStep holder rules (admins_of holder users old) old admin target role mid
+    × WeakSteps holder rules users mid admin target roles new
 
 -- the weak steps of the role and of each held role in its reach, by rising number
 pub record StrongStep (holder : Holder) (rules : Rules) (users old : List (List ℕ)) (admin target role : ℕ) (new : List (List ℕ)) : Type 0 where
@@ -60,6 +62,7 @@ pub record StrongStep (holder : Holder) (rules : Rules) (users old : List (List 
   pub set_is : slice_get old target ≡ Some set
   pub steps : WeakSteps holder rules users old admin target (falling holder rules.order set role) new
 
+-- the step of an act of the kind
 abbrev pub KindStep : ActKind → Holder → Rules → List (List ℕ) → List (List ℕ) → ℕ → ℕ → ℕ → List (List ℕ) → Type 0
 KindStep Assign = AssignStep
 KindStep Weak = WeakStep

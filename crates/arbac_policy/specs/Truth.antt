@@ -15,6 +15,7 @@ pub data Term : Type 0 where
   both : Term → Term → Term
   either : Term → Term → Term
 
+-- one level of a condition, its parts as terms
 abbrev pub term_level : Cond-F Term → Term
 term_level Any = any
 term_level (Has role) = has role
@@ -30,9 +31,11 @@ term_of cond = fold-Cond Term term_level cond
 abbrev pub Holder : Type 0
 Holder = On
 
+-- a holder who is a user
 abbrev pub user : Holder
 user = User
 
+-- a holder that is a permission
 abbrev pub permission : Holder
 permission = Permission
 
@@ -44,6 +47,7 @@ IsMember edges set role = (held : ℕ) × IsIn set held × Leads edges held role
 abbrev pub IsPermMember : List (ℕ × ℕ) → List ℕ → ℕ → Type 0
 IsPermMember edges set role = (held : ℕ) × IsIn set held × Leads edges role held
 
+-- membership of users, or of permissions
 abbrev pub IsMemberOf : Holder → List (ℕ × ℕ) → List ℕ → ℕ → Type 0
 IsMemberOf User = IsMember
 IsMemberOf Permission = IsPermMember

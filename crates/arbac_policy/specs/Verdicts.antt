@@ -62,20 +62,23 @@ RevokeFails holder rules by role (Exclusive r place) = ⊥
 abbrev pub AssignDenied : Holder → Rules → List (List ℕ) → List (List ℕ) → ℕ → ℕ → ℕ → Part → Type 0
 AssignDenied holder rules users old admin target role part =
     PlaceFails users old admin target part
-    ⊎ ((by : List ℕ) × (set : List ℕ) × (slice_get users admin ≡ Some by) × (slice_get old target ≡ Some set) × AssignFails holder rules by set role part)
+    ⊎ ((by : List ℕ) × (set : List ℕ) × (slice_get users admin ≡ Some by) × (slice_get old target ≡ Some set)
+    × AssignFails holder rules by set role part)
 
 -- a weak revocation has no step, for this first part
 abbrev pub WeakDenied : Holder → Rules → List (List ℕ) → List (List ℕ) → ℕ → ℕ → ℕ → Part → Type 0
 WeakDenied holder rules users old admin target role part =
     PlaceFails users old admin target part
-    ⊎ ((by : List ℕ) × (set : List ℕ) × (slice_get users admin ≡ Some by) × (slice_get old target ≡ Some set) × RevokeFails holder rules by role part)
+    ⊎ ((by : List ℕ) × (set : List ℕ) × (slice_get users admin ≡ Some by) × (slice_get old target ≡ Some set)
+    × RevokeFails holder rules by role part)
 
 -- of the weak steps of these roles the first that is none fails for this part, in the state that it finds
 abbrev pub WeaksDenied : Holder → Rules → List (List ℕ) → List (List ℕ) → ℕ → ℕ → List ℕ → Part → Type 0
 WeaksDenied holder rules users old admin target [] part = ⊥
 WeaksDenied holder rules users old admin target (role ∷ roles) part =
     WeakDenied holder rules (admins_of holder users old) old admin target role part
-    ⊎ ((mid : List (List ℕ)) × WeakStep holder rules (admins_of holder users old) old admin target role mid × WeaksDenied holder rules users mid admin target roles part)
+    ⊎ ((mid : List (List ℕ)) × WeakStep holder rules (admins_of holder users old) old admin target role mid
+    × WeaksDenied holder rules users mid admin target roles part)
 
 -- a strong revocation has no step, for this first part
 abbrev pub StrongDenied : Holder → Rules → List (List ℕ) → List (List ℕ) → ℕ → ℕ → ℕ → Part → Type 0
@@ -85,6 +88,7 @@ StrongDenied holder rules users old admin target role part =
     × (((part ≡ NoRole role) × (length rules.order.names ≤ role))
     ⊎ ((role < length rules.order.names) × WeaksDenied holder rules users old admin target (falling holder rules.order set role) part)))
 
+-- an act of the kind has no step, for this first part
 abbrev pub KindDenied : ActKind → Holder → Rules → List (List ℕ) → List (List ℕ) → ℕ → ℕ → ℕ → Part → Type 0
 KindDenied Assign = AssignDenied
 KindDenied Weak = WeakDenied

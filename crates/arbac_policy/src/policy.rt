@@ -155,6 +155,15 @@ impl Policy {
         }
     }
 
+    /// What every policy keeps: its numbers are roles of its order, and its tables' places have 32 bits.
+    /// It only says so.
+    pub fn law(&self)
+        ensures known { IsPolicy self.now }
+        ensures few { AreCountable self.now }
+    {
+        let _ = &self.order;
+    }
+
     /// The role order.
     pub fn order(&self) -> &Order
         ensures order { result.now ≡ self.now.order }

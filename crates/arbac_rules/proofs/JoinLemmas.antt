@@ -1,12 +1,13 @@
 -- Lists of conjuncts that grow by one at a time.
-use Rattle.std.proofs.Common.{ℕ, ◌≡◌, ◌≤◌, ◌<◌, ◌+◌, ◌∙◌, List, [], ◌∷◌, ◌++◌, length, take, get_or, Some, refl, zero, suc, ap, sym, append_assoc, arith}
+use Rattle.std.proofs.Common.{ℕ, ◌≡◌, ◌≤◌, ◌<◌, ◌+◌, ◌∙◌, List, [], ◌∷◌, ◌++◌, length, take, get_or, Some, refl, zero}
+use Rattle.std.proofs.Common.{suc, ap, sym, append_assoc, arith}
 use Rattle.std.specs.List.{slice_get}
 use Rattle.std.proofs.lemmas.List.{append-nil, map_push}
 use Rattle.list_words.proofs.GetLemmas.{take_all, take_one_more}
 use Rattle.arbac_laws.specs.Needs.{Need}
 use Rattle.arbac_laws.specs.Conjuncts.{join_all, join_needs, join_with}
-use Rattle.arbac_rules.specs.declared.conjunct.Conjunct.{Conjunct}
-use Rattle.arbac_rules.specs.Views.{need_of, needs_of}
+use Rattle.arbac_policy.specs.declared.conjunct.Conjunct.{Conjunct}
+use Rattle.arbac_laws.specs.Views.{need_of, needs_of}
 
 pub get_needs : (xs : List Conjunct) (i : ℕ) (x : Conjunct) → i < length xs → x ≡ get_or xs i x → slice_get (needs_of xs) i ≡ Some (need_of x)
 get_needs [] i x h e = absurd (omega arith)

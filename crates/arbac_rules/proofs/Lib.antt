@@ -1,2 +1,3 @@
 pub mod WidthLemmas
+pub mod GoalWidthLemmas
 pub mod JoinLemmas

@@ -1,50 +1,43 @@
-//! Conjuncts, and lists of them.
+//! Lists of conjuncts.
 
 ghost use Rattle.std.specs.Prelude.{◌≡◌, ◌++◌, [], ◌∷◌, IfOk, OnOk};
 ghost use Rattle.arbac_laws.specs.Conjuncts.{join_needs, join_with, join_all};
-ghost use Rattle.arbac_rules.specs.Views.{need_of, needs_of, need_of_any, need_of_has, need_of_lacks};
+ghost use Rattle.arbac_laws.specs.Views.{need_of, needs_of};
 
+use crate::NoMemory;
+use arbac_policy::Conjunct;
 use role_order::RoleSet;
 use std::alloc::{AllocError, Global};
 
-/// What one user must be: the set of a user meets it with a role of each hit and none of the lacks.
-#[derive(Drop)]
-pub struct Conjunct {
-    pub hits: Vec<RoleSet>,
-    pub lacks: RoleSet,
+/// The conjunct of `any`, that each set meets.
+pub fn of_any(alloc: Global) -> Conjunct
+    ensures { need_of result ≡ record { hits = []; lacks = [] } }
+{
+    Conjunct {
+        hits: Vec::new(alloc),
+        lacks: RoleSet::empty(),
+    }
 }
 
-impl Conjunct {
-    /// The conjunct of `any`, that each set meets.
-    pub fn of_any(alloc: Global) -> Conjunct
-        ensures { need_of result ≡ need_of_any }
-    {
-        Conjunct {
-            hits: Vec::new(alloc),
-            lacks: RoleSet::empty(),
-        }
-    }
+/// The conjunct that wants a role of the set.
+pub fn of_has(alloc: Global, hit: RoleSet) -> Result<Conjunct, NoMemory>
+    ensures { IfOk result (λ one. need_of one ≡ record { hits = hit ∷ []; lacks = [] }) }
+{
+    let mut hits = Vec::new(alloc);
+    hits.push(hit)?;
+    Ok(Conjunct {
+        hits,
+        lacks: RoleSet::empty(),
+    })
+}
 
-    /// The conjunct that wants a role of the set.
-    pub fn of_has(alloc: Global, hit: RoleSet) -> Result<Conjunct, AllocError>
-        ensures { IfOk result (λ one. need_of one ≡ need_of_has hit) }
-    {
-        let mut hits = Vec::new(alloc);
-        hits.push(hit)?;
-        Ok(Conjunct {
-            hits,
-            lacks: RoleSet::empty(),
-        })
-    }
-
-    /// The conjunct that bars the roles of the set.
-    pub fn of_lacks(alloc: Global, lacks: RoleSet) -> Conjunct
-        ensures { need_of result ≡ need_of_lacks lacks }
-    {
-        Conjunct {
-            hits: Vec::new(alloc),
-            lacks,
-        }
+/// The conjunct that bars the roles of the set.
+pub fn of_lacks(alloc: Global, lacks: RoleSet) -> Conjunct
+    ensures { need_of result ≡ record { hits = []; lacks = lacks } }
+{
+    Conjunct {
+        hits: Vec::new(alloc),
+        lacks,
     }
 }
 
@@ -81,7 +74,7 @@ pub fn joined_lists(
     alloc: Global,
     lefts: &[Conjunct],
     rights: &[Conjunct],
-) -> Result<Vec<Conjunct>, AllocError>
+) -> Result<Vec<Conjunct>, NoMemory>
     ensures { IfOk result (λ all. needs_of all.items
         ≡ join_all (needs_of lefts.now) (needs_of rights.now)) }
 {
@@ -93,7 +86,7 @@ pub fn joined_lists(
 }
 
 /// The left ones, and behind them the right ones.
-pub fn added_lists(lefts: Vec<Conjunct>, rights: Vec<Conjunct>) -> Result<Vec<Conjunct>, AllocError>
+pub fn added_lists(lefts: Vec<Conjunct>, rights: Vec<Conjunct>) -> Result<Vec<Conjunct>, NoMemory>
     ensures { IfOk result (λ all. all.items ≡ lefts.items ++ rights.items) }
 {
     let mut all = lefts;
@@ -104,7 +97,7 @@ pub fn added_lists(lefts: Vec<Conjunct>, rights: Vec<Conjunct>) -> Result<Vec<Co
 }
 
 /// A list of one conjunct.
-pub fn list_of(alloc: Global, one: Conjunct) -> Result<Vec<Conjunct>, AllocError>
+pub fn list_of(alloc: Global, one: Conjunct) -> Result<Vec<Conjunct>, NoMemory>
     ensures { IfOk result (λ all. needs_of all.items ≡ need_of one ∷ []) }
 {
     let mut all = Vec::new(alloc);

@@ -3,13 +3,14 @@
 ghost use Rattle.std.specs.Prelude.{◌≡◌, ◌≤◌, ◌<◌, length, IfOk, IfErr};
 ghost use Rattle.arbac_policy.specs.Truth.{term_of, IsKnown};
 ghost use Rattle.cond_text.specs.Grammar.{term_count};
-ghost use Rattle.arbac_laws.specs.Conjuncts.{conjuncts as conjuncts_law};
-ghost use Rattle.arbac_rules.specs.Views.{needs_of, IsTooWide};
+ghost use Rattle.arbac_laws.specs.Conjuncts as laws;
+ghost use Rattle.arbac_laws.specs.Views.{needs_of};
+ghost use Rattle.arbac_rules.specs.Widths.{IsTooWide};
 
 use crate::MOST_CONJUNCTS;
-use crate::conjunct::{Conjunct, added_lists, joined_lists, list_of};
+use crate::conjunct::{added_lists, joined_lists, list_of, of_any, of_has, of_lacks};
 use crate::width::width_of;
-use arbac_policy::Cond;
+use arbac_policy::{Cond, Conjunct};
 use cond_text::MOST_TERMS;
 use role_order::Order;
 use std::alloc::{AllocError, Global};
@@ -27,12 +28,12 @@ pub enum WideError {
 fn list_all(alloc: Global, order: &Order, cond: &Cond) -> Result<Vec<Conjunct>, AllocError>
     requires { IsKnown (length order.now.names) (term_of cond.now) }
     ensures { IfOk result (λ list. needs_of list.items
-        ≡ conjuncts_law order.now (term_of cond.now)) }
+        ≡ laws.conjuncts order.now (term_of cond.now)) }
 {
     match cond {
-        Cond::Any => Ok(list_of(alloc, Conjunct::of_any(alloc))?),
-        Cond::Has(role) => Ok(list_of(alloc, Conjunct::of_has(alloc, order.seniors(*role))?)?),
-        Cond::Lacks(role) => Ok(list_of(alloc, Conjunct::of_lacks(alloc, order.seniors(*role)))?),
+        Cond::Any => Ok(list_of(alloc, of_any(alloc))?),
+        Cond::Has(role) => Ok(list_of(alloc, of_has(alloc, order.seniors(*role))?)?),
+        Cond::Lacks(role) => Ok(list_of(alloc, of_lacks(alloc, order.seniors(*role)))?),
         Cond::And(left, right) => {
             let lefts = list_all(alloc, order, left.get())?;
             let rights = list_all(alloc, order, right.get())?;
@@ -53,10 +54,10 @@ pub fn conjuncts(alloc: Global, order: &Order, cond: &Cond) -> Result<Vec<Conjun
     requires terms { term_count (term_of cond.now) ≤ MOST_TERMS }
     requires known { IsKnown (length order.now.names) (term_of cond.now) }
     ensures list { IfOk result (λ list. needs_of list.items
-        ≡ conjuncts_law order.now (term_of cond.now)) }
-    ensures few { IfOk result (λ _. length (conjuncts_law order.now (term_of cond.now))
+        ≡ laws.conjuncts order.now (term_of cond.now)) }
+    ensures few { IfOk result (λ _. length (laws.conjuncts order.now (term_of cond.now))
         ≤ MOST_CONJUNCTS) }
-    ensures wide { IfErr result (IsTooWide (conjuncts_law order.now (term_of cond.now))) }
+    ensures wide { IfErr result (IsTooWide (laws.conjuncts order.now (term_of cond.now))) }
     ensures limit { MOST_CONJUNCTS ≡ 1024 }
 {
     let count = width_of(cond);

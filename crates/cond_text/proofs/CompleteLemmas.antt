@@ -14,7 +14,9 @@ abbrev ReadsOperand : Phrase → Type 0
 ReadsOperand p = (fs : List Frame) (f : Frame) (rest : List Word) → go (wants_operand fs f) (spell p rest) ≡ go (operand_read fs f (value p)) rest
 
 abbrev ReadsConjunction : Phrase → Type 0
-ReadsConjunction p = (fs : List Frame) (ors : Option Term) (rest : List Word) → go (wants_operand fs (record { ors = ors; ands = None })) (spell p rest) ≡ go (has_conjunction fs ors (value p)) rest
+ReadsConjunction p =
+    (fs : List Frame) (ors : Option Term) (rest : List Word) → go (wants_operand fs (record { ors = ors; ands = None })) (spell p rest) ≡ go
+    (has_conjunction fs ors (value p)) rest
 
 record ReadCondition (p : Phrase) (fs : List Frame) (rest : List Word) : Type 0 where
   ors : Option Term
@@ -34,7 +36,8 @@ from_operand p operand = record {
   whole = λ h fs rest. record { ors = None; last = value p; whole = refl; read = operand fs no_frame rest };
 }
 
-from_conjunction : (p : Phrase) → (IsAt Operand p → ⊥) → (IsAt Conjunction p → ReadsConjunction p) → (IsAt Condition p → IsAt Conjunction p) → Reads p
+from_conjunction : (p : Phrase) → (IsAt Operand p → ⊥) → (IsAt Conjunction p → ReadsConjunction p) → (IsAt Condition p → IsAt Conjunction p)
+    → Reads p
 from_conjunction p not_operand conjunction lower = record {
   operand = λ h. absurd (not_operand h);
   conjunction = conjunction;
@@ -50,14 +53,16 @@ and_read : (p q : Phrase) → ReadsConjunction p → ReadsOperand q → ReadsCon
 and_read p q left right fs ors rest =
     left fs ors (And ∷ spell q rest) ∙ right fs (record { ors = ors; ands = Some (value p) }) rest
 
-or_read : (p q : Phrase) → ((fs : List Frame) (rest : List Word) → ReadCondition p fs rest) → ReadsConjunction q → (fs : List Frame) (rest : List Word) → ReadCondition (an_or p q) fs rest
+or_read : (p q : Phrase) → ((fs : List Frame) (rest : List Word) → ReadCondition p fs rest) → ReadsConjunction q
+    → (fs : List Frame) (rest : List Word) → ReadCondition (an_or p q) fs rest
 or_read p q left right fs rest =
     let first = left fs (Or ∷ spell q rest) in
     record {
       ors = Some (value p);
       last = value q;
       whole = refl;
-      read = first.read ∙ ap (λ t. go (wants_operand fs (record { ors = Some t; ands = None })) (spell q rest)) first.whole ∙ right fs (Some (value p)) rest;
+      read = first.read ∙ ap (λ t. go (wants_operand fs (record { ors = Some t; ands = None })) (spell q rest)) first.whole
+          ∙ right fs (Some (value p)) rest;
     }
 
 reads : (p : Phrase) → Reads p
@@ -69,7 +74,9 @@ reads (enclosed p) = record {
   conjunction = λ h. (from_operand (enclosed p) (enclosed_read p ((reads p).whole h))).conjunction h;
   whole = λ h. (from_operand (enclosed p) (enclosed_read p ((reads p).whole h))).whole h;
 }
-reads (an_and p q) = from_conjunction (an_and p q) (λ h. absurd (false≢true h.0)) (λ h. and_read p q ((reads p).conjunction h.1) ((reads q).operand h.2)) (λ h. (refl, h.1, h.2))
+reads (an_and p q) =
+    from_conjunction (an_and p q) (λ h. absurd (false≢true h.0)) (λ h. and_read p q ((reads p).conjunction h.1) ((reads q).operand h.2))
+    (λ h. (refl, h.1, h.2))
 reads (an_or p q) = record {
   operand = λ h. absurd (false≢true h.0);
   conjunction = λ h. absurd (false≢true h.0);

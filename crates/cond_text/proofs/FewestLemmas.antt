@@ -25,7 +25,8 @@ phrase_at_level level any = tt
 phrase_at_level level (has role) = tt
 phrase_at_level level (lacks role) = tt
 phrase_at_level level (both t u) = and_at level (phrase_at Conjunction t) (phrase_at Operand u) (phrase_at_level Conjunction t) (phrase_at_level Operand u)
-phrase_at_level level (either t u) = or_at level (phrase_at Condition t) (phrase_at Conjunction u) (phrase_at_level Condition t) (phrase_at_level Conjunction u)
+phrase_at_level level (either t u) =
+    or_at level (phrase_at Condition t) (phrase_at Conjunction u) (phrase_at_level Condition t) (phrase_at_level Conjunction u)
 
 free_value : (free : Bool) (p : Phrase) → value (free_if free p) ≡ value p
 free_value true p = refl
@@ -37,10 +38,12 @@ phrase_value level any = refl
 phrase_value level (has role) = refl
 phrase_value level (lacks role) = refl
 phrase_value level (both t u) =
-    free_value (takes_and level) (an_and (phrase_at Conjunction t) (phrase_at Operand u)) ∙ ap (λ x. both x (value (phrase_at Operand u))) (phrase_value Conjunction t)
+    free_value (takes_and level) (an_and (phrase_at Conjunction t) (phrase_at Operand u))
+    ∙ ap (λ x. both x (value (phrase_at Operand u))) (phrase_value Conjunction t)
     ∙ ap (λ y. both t y) (phrase_value Operand u)
 phrase_value level (either t u) =
-    free_value (takes_or level) (an_or (phrase_at Condition t) (phrase_at Conjunction u)) ∙ ap (λ x. either x (value (phrase_at Conjunction u))) (phrase_value Condition t)
+    free_value (takes_or level) (an_or (phrase_at Condition t) (phrase_at Conjunction u)) ∙ ap (λ x. either x (value (phrase_at Conjunction u)))
+    (phrase_value Condition t)
     ∙ ap (λ y. either t y) (phrase_value Conjunction u)
 
 -- how many pairs of parentheses a phrase has

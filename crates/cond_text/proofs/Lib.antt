@@ -12,3 +12,7 @@ pub mod WrittenLemmas
 pub mod WordLemmas
 pub mod ReadLemmas
 pub mod PrintLemmas
+pub mod CutLemmas
+pub mod NamedLemmas
+pub mod RangeLemmas
+pub mod OrderLemmas

@@ -1,5 +1,6 @@
 -- Words within the limits have no fault, and a condition of few terms is printed within them.
-use Rattle.std.proofs.Common.{ℕ, ◌≡◌, ◌+◌, ◌-◌, ◌<◌, ◌≤◌, ap, subst, sym, arith, max, Bool, true, false, List, [], ◌∷◌, ◌++◌, append_assoc}
+use Rattle.std.proofs.Common.{ℕ, ◌≡◌, ◌+◌, ◌-◌, ◌<◌, ◌≤◌, ap, subst, sym, arith, max, Bool, true, false, List, [], ◌∷◌}
+use Rattle.std.proofs.Common.{◌++◌, append_assoc}
 use Rattle.cond_text.specs.declared.word.Placed.{Placed}
 use Rattle.cond_text.specs.declared.word.Word.{Word}
 use Rattle.cond_text.specs.declared.word.Word.TheVariants.{Any, Name, Not, And, Or, Open, Close, Stray}
@@ -18,7 +19,8 @@ name_weighs : (rest : List Placed) → BeginsWithName rest → 1 ≤ terms_in (p
 name_weighs [] h = absurd h
 name_weighs (x ∷ xs) h = let e = ap weight h.1 in omega (arith, e)
 
-not_deep : (before : List Word) (w : Word) (rest : List Placed) → terms_in before + (weight w + terms_in (plain rest)) ≤ MOST_TERMS → open_behind (open_after 0 before) w ≤ MOST_OPEN → IsTooDeep before w rest → ⊥
+not_deep : (before : List Word) (w : Word) (rest : List Placed) → terms_in before + (weight w + terms_in (plain rest)) ≤ MOST_TERMS
+    → open_behind (open_after 0 before) w ≤ MOST_OPEN → IsTooDeep before w rest → ⊥
 not_deep before Any rest h k d = absurd (omega arith)
 not_deep before (Name role) rest h k d = absurd (omega arith)
 not_deep before Not rest h k d = absurd (omega (arith, name_weighs rest d.1, d.0))
@@ -32,14 +34,16 @@ shallow_along : (m n : ℕ) (ws : List Word) → m ≡ n → IsShallow m ws → 
 shallow_along m n ws e h = let P : ℕ → Type 0 = λ k. IsShallow k ws in subst P e h
 
 -- words within the limits have no fault
-pub fine_all : (count : ℕ) (ws : List Placed) (before : List Word) (t : Term) → Stands (before ++ plain ws) t → terms_in before + terms_in (plain ws) ≤ MOST_TERMS
+pub fine_all : (count : ℕ) (ws : List Placed) (before : List Word) (t : Term) → Stands (before ++ plain ws) t
+    → terms_in before + terms_in (plain ws) ≤ MOST_TERMS
     → IsShallow (open_after 0 before) (plain ws) → AreKnown count (plain ws) → AreFine count before ws
 fine_all count [] before t st few shallow known = tt
 fine_all count (x ∷ xs) before t st few shallow known =
     let e = append_assoc before (x.word ∷ []) (plain xs) in
     let st2 : Stands ((before ++ (x.word ∷ [])) ++ plain xs) t = subst (λ (ws : List Word). Stands ws t) (sym e) st in (
       record { expected = record { more = plain xs; term = t; stands = st2 }; shallow = not_deep before x.word xs few shallow.0; known = known.0 },
-      fine_all count xs (before ++ (x.word ∷ [])) t st2 (omega (arith, terms_more before x.word)) (shallow_along _ _ (plain xs) (sym (open_more 0 before x.word)) shallow.1) known.1,
+      fine_all count xs (before ++ (x.word ∷ [])) t st2 (omega (arith, terms_more before x.word))
+          (shallow_along _ _ (plain xs) (sym (open_more 0 before x.word)) shallow.1) known.1,
     )
 
 depth : Phrase → ℕ
@@ -87,11 +91,14 @@ unfolding depth
 depth_below level any = omega arith
 depth_below level (has role) = omega arith
 depth_below level (lacks role) = omega arith
-depth_below level (both t u) = omega (arith, free_depth (takes_and level) (an_and (phrase_at Conjunction t) (phrase_at Operand u)), depth_below Conjunction t, depth_below Operand u)
-depth_below level (either t u) = omega (arith, free_depth (takes_or level) (an_or (phrase_at Condition t) (phrase_at Conjunction u)), depth_below Condition t, depth_below Conjunction u)
+depth_below level (both t u) =
+    omega (arith, free_depth (takes_and level) (an_and (phrase_at Conjunction t) (phrase_at Operand u)), depth_below Conjunction t, depth_below Operand u)
+depth_below level (either t u) =
+    omega (arith, free_depth (takes_or level) (an_or (phrase_at Condition t) (phrase_at Conjunction u)), depth_below Condition t, depth_below Conjunction u)
 
 -- the words of the printed phrase have no fault
-pub printed_fine : (count : ℕ) (ws : List Placed) (t : Term) → plain ws ≡ spell (phrase_at Condition t) [] → Stands (plain ws) t → term_count t ≤ MOST_TERMS → IsKnown count t → AreFine count [] ws
+pub printed_fine : (count : ℕ) (ws : List Placed) (t : Term) → plain ws ≡ spell (phrase_at Condition t) [] → Stands (plain ws) t
+    → term_count t ≤ MOST_TERMS → IsKnown count t → AreFine count [] ws
 printed_fine count ws t e st few roles =
     let v = phrase_value Condition t in
     let P : Term → Type 0 = λ u. IsKnown count u in
@@ -103,7 +110,8 @@ printed_fine count ws t e st few roles =
     (subst R (sym e) (known_spell count (phrase_at Condition t) [] (subst P (sym v) roles) tt))
 
 -- no more terms than the limit are without a fault
-few_words : (count : ℕ) (before : List Word) (ws : List Placed) → terms_in before ≤ MOST_TERMS → AreFine count before ws → terms_in before + terms_in (plain ws) ≤ MOST_TERMS
+few_words : (count : ℕ) (before : List Word) (ws : List Placed) → terms_in before ≤ MOST_TERMS → AreFine count before ws
+    → terms_in before + terms_in (plain ws) ≤ MOST_TERMS
 few_words count before [] h fine = omega arith
 few_words count before (x ∷ xs) h fine =
     let here : terms_in (before ++ (x.word ∷ [])) ≤ MOST_TERMS = rw (terms_more before x.word) (room before x.word xs h fine.0.shallow) in
@@ -113,7 +121,8 @@ few_words count before (x ∷ xs) h fine =
     below : (n : ℕ) → n ≤ MOST_TERMS → (MOST_TERMS ≤ n → ⊥) → n + 1 ≤ MOST_TERMS
     below n l h = grind arith
 
-    room : (before : List Word) (w : Word) (rest : List Placed) → terms_in before ≤ MOST_TERMS → (IsTooDeep before w rest → ⊥) → terms_in before + weight w ≤ MOST_TERMS
+    room : (before : List Word) (w : Word) (rest : List Placed) → terms_in before ≤ MOST_TERMS → (IsTooDeep before w rest → ⊥)
+        → terms_in before + weight w ≤ MOST_TERMS
     room before Any rest l h = below (terms_in before) l h
     room before (Name role) rest l h = below (terms_in before) l h
     room before Not rest l h = omega arith
@@ -135,7 +144,8 @@ spelled_known count an_any rest k = (tt, k.1)
 spelled_known count (a_name role) rest k = (below_count count role k.0, k.1)
 spelled_known count (a_not role) rest k = (below_count count role k.1.0, k.1.1)
 spelled_known count (enclosed p) rest k = let r = spelled_known count p (Close ∷ rest) k.1 in (r.0, r.1.1)
-spelled_known count (an_and p q) rest k = let l = spelled_known count p (And ∷ spell q rest) k in let r = spelled_known count q rest l.1.1 in ((l.0, r.0), r.1)
+spelled_known count (an_and p q) rest k =
+    let l = spelled_known count p (And ∷ spell q rest) k in let r = spelled_known count q rest l.1.1 in ((l.0, r.0), r.1)
 spelled_known count (an_or p q) rest k = let l = spelled_known count p (Or ∷ spell q rest) k in let r = spelled_known count q rest l.1.1 in ((l.0, r.0), r.1)
 
 -- what words without a fault stand for has few terms, each of a role

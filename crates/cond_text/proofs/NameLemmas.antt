@@ -1,5 +1,6 @@
 -- The names of an order are each a word of their own role.
-use Rattle.std.proofs.Common.{ℕ, zero, suc, ◌≡◌, ◌≢◌, ◌<◌, ◌∙◌, ap, sym, refl, arith, Bool, true, false, cond, ◌&&◌, ◌||◌, nat_le, List, [], ◌∷◌, length, get_or, Some, None}
+use Rattle.std.proofs.Common.{ℕ, zero, suc, ◌≡◌, ◌≢◌, ◌<◌, ◌∙◌, ap, sym, refl, arith, Bool, true, false, cond, ◌&&◌, ◌||◌}
+use Rattle.std.proofs.Common.{nat_le, List, [], ◌∷◌, length, get_or, Some, None}
 use Rattle.std.specs.Prelude.{not, nat_lt, codes}
 use Rattle.std.specs.List.{list_all, prefix_len}
 use Rattle.std.specs.Option.{unwrap_or}
@@ -53,7 +54,8 @@ free_name name h =
     (not (bytes_eq name (codes "any") || bytes_eq name (codes "not") || bytes_eq name (codes "and") || bytes_eq name (codes "or"))) h in
     let named = and_both (nat_le 1 (length name) && nat_le (length name) MOST_NAME_BYTES) (list_all is_name_byte name) parts.0 in
     let long = and_both (nat_le 1 (length name)) (nat_le (length name) MOST_NAME_BYTES) named.0 in
-    let three = or_none (bytes_eq name (codes "any") || bytes_eq name (codes "not") || bytes_eq name (codes "and")) (bytes_eq name (codes "or")) (not_true _ parts.1) in
+    let three = or_none (bytes_eq name (codes "any") || bytes_eq name (codes "not") || bytes_eq name (codes "and")) (bytes_eq name (codes "or"))
+    (not_true _ parts.1) in
     let two = or_none (bytes_eq name (codes "any") || bytes_eq name (codes "not")) (bytes_eq name (codes "and")) three.0 in
     let one = or_none (bytes_eq name (codes "any")) (bytes_eq name (codes "not")) two.0 in
     record { bytes = named.1; some = not_empty name long.0; any = one.0; not_ = one.1; and = two.1; or = three.1 }
@@ -74,7 +76,8 @@ place_at names different role h =
     let text : List ℕ = get_or names role [] in
     let here : bytes_eq text text ≡ true = (bytes_eq-Decides text text).1 refl in
     found_at (prefix_len (λ name. not (bytes_eq name text)) names) role (length names)
-    (prefix_at names role text h here (λ j l. not_false (bytes_eq (get_or names j []) text) (λ e. clash j l ((bytes_eq-Decides (get_or names j []) text).0 e)))) h
+    (prefix_at names role text h here
+    (λ j l. not_false (bytes_eq (get_or names j []) text) (λ e. clash j l ((bytes_eq-Decides (get_or names j []) text).0 e)))) h
   where
     clash : (j : ℕ) → j < role → get_or names j [] ≡ get_or names role [] → ⊥
     clash j l e =

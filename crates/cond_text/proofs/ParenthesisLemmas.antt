@@ -1,5 +1,6 @@
 -- The words "(" of a text are its bytes "(".
-use Rattle.std.proofs.Common.{ℕ, ◌≡◌, ◌+◌, ◌∙◌, ap, sym, refl, arith, Bool, true, false, cond, ◌==◌, ◌||◌, List, [], ◌∷◌, Option, Some, None}
+use Rattle.std.proofs.Common.{ℕ, ◌≡◌, ◌+◌, ◌∙◌, ap, sym, refl, arith, Bool, true, false, cond, ◌==◌, ◌||◌, List, [], ◌∷◌}
+use Rattle.std.proofs.Common.{Option, Some, None}
 use Rattle.std.specs.Prelude.{codes}
 use Rattle.std.specs.List.{take_while}
 use Rattle.std.specs.Str.{bytes_eq}
@@ -29,10 +30,12 @@ no_word_opens false false false false role = refl
 
 run_opens : (names : List (List ℕ)) (run : List ℕ) → open_weight (word_of names run) ≡ 0
 unfolding word_of
-run_opens names run = no_word_opens (bytes_eq run (codes "any")) (bytes_eq run (codes "not")) (bytes_eq run (codes "and")) (bytes_eq run (codes "or")) (role_or_count names run)
+run_opens names run =
+    no_word_opens (bytes_eq run (codes "any")) (bytes_eq run (codes "not")) (bytes_eq run (codes "and")) (bytes_eq run (codes "or")) (role_or_count names run)
 
 -- where the first tests are of name bytes and blanks, neither of which is a "("
-one_weight : (name behind blank open_ close : Bool) (run : Word) → open_weight run ≡ 0 → (name ≡ true → open_ ≡ false) → (blank ≡ true → open_ ≡ false)
+one_weight : (name behind blank open_ close : Bool) (run : Word) → open_weight run ≡ 0 → (name ≡ true → open_ ≡ false)
+    → (blank ≡ true → open_ ≡ false)
     → weight_of (cond name (cond behind None (Some run)) (cond blank None (cond open_ (Some Open) (cond close (Some Close) (Some Stray))))) ≡ cond open_ 1 0
 one_weight true true blank open_ close run e n m = rw (n refl) refl
 one_weight true false blank open_ close run e n m = rw (n refl) e
@@ -48,7 +51,8 @@ not_open test b absent h = by_test (b == 40) refl
     by_test false e = e
     by_test true e = absurd (false≢true (sym absent ∙ sym (ap test (eqb-true b 40 e)) ∙ h))
 
-byte_weight : (names : List (List ℕ)) (behind_name : Bool) (b : ℕ) (bs : List ℕ) → weight_of (word_at names behind_name (b ∷ bs)) ≡ cond (b == 40) 1 0
+byte_weight : (names : List (List ℕ)) (behind_name : Bool) (b : ℕ) (bs : List ℕ) → weight_of (word_at names behind_name (b ∷ bs)) ≡ cond
+    (b == 40) 1 0
 byte_weight names behind_name b bs =
     one_weight (is_name_byte b) behind_name ((b == 32) || (b == 9)) (b == 40) (b == 41) (word_of names (take_while is_name_byte (b ∷ bs)))
     (run_opens names (take_while is_name_byte (b ∷ bs))) (not_open is_name_byte b refl) (not_open (λ c. (c == 32) || (c == 9)) b refl)

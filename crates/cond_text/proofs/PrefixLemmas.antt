@@ -5,7 +5,8 @@ use Rattle.cond_text.specs.declared.word.Word.{Word}
 use Rattle.cond_text.specs.declared.word.Word.TheVariants.{Any, Name, Not, And, Or, Open, Close, Stray}
 use Rattle.arbac_policy.specs.Truth.{Term, any, has, lacks}
 use Rattle.cond_text.specs.Grammar.{CanBegin}
-use Rattle.cond_text.specs.Machine.{Frame, State, wants_operand, wants_name, has_conjunction, no_frame, and_with, or_with, operand_read, step, go, finish, start}
+use Rattle.cond_text.specs.Machine.{Frame, State, wants_operand, wants_name, has_conjunction, no_frame, and_with, or_with, operand_read, step, go, finish}
+use Rattle.cond_text.specs.Machine.{start}
 use Rattle.cond_text.specs.Faults.{open_behind}
 use Rattle.cond_text.specs.Judge.{open_in}
 use Rattle.cond_text.proofs.CompleteLemmas.{accepts}
@@ -49,7 +50,8 @@ can_begin s ws e =
     record {
       more = n.more;
       term = n.term;
-      stands = accepted (ws ++ n.more) n.term (ap (option_and_then finish) (go_append start ws n.more ∙ ap (option_and_then (λ m. go m n.more)) e) ∙ n.ends);
+      stands = accepted (ws ++ n.more) n.term (ap (option_and_then finish) (go_append start ws n.more ∙ ap (option_and_then (λ m. go m n.more)) e)
+          ∙ n.ends);
     }
 
 -- what it refuses isn't
@@ -79,7 +81,8 @@ open_step (wants_name fs f) next Or e = absurd (cc)
 open_step (wants_name fs f) next Close e = absurd (cc)
 open_step (wants_name fs f) next Stray e = absurd (cc)
 open_step (has_conjunction fs ors t) next And e = let h : wants_operand fs (record { ors = ors; ands = Some t }) ≡ next = cc in sym (ap open_in h)
-open_step (has_conjunction fs ors t) next Or e = let h : wants_operand fs (record { ors = Some (or_with ors t); ands = None }) ≡ next = cc in sym (ap open_in h)
+open_step (has_conjunction fs ors t) next Or e =
+    let h : wants_operand fs (record { ors = Some (or_with ors t); ands = None }) ≡ next = cc in sym (ap open_in h)
 open_step (has_conjunction [] ors t) next Close e = absurd (cc)
 open_step (has_conjunction (f ∷ fs) ors t) next Close e = let h : operand_read fs f (or_with ors t) ≡ next = cc in sym (ap open_in h) ∙ omega arith
 open_step (has_conjunction fs ors t) next Any e = absurd (cc)

@@ -1,5 +1,6 @@
 -- What the loop over the words keeps, and what its end says of the text.
-use Rattle.std.proofs.Common.{◌≡◌, ℕ, ◌≤◌, ◌+◌, ap, subst, sym, refl, arith, List, [], ◌∷◌, length, Some, Result, Ok, Err, IfOk, IfErr, inl, inr}
+use Rattle.std.proofs.Common.{◌≡◌, ℕ, ◌≤◌, ◌+◌, ap, subst, sym, refl, arith, List, [], ◌∷◌, length, Some, Result, Ok, Err, IfOk}
+use Rattle.std.proofs.Common.{IfErr, inl, inr}
 use Rattle.arbac_policy.specs.declared.cond.Cond.{Cond}
 use Rattle.arbac_policy.specs.Truth.{Term, term_of, IsKnown}
 use Rattle.cond_text.specs.declared.word.Word.{Word}
@@ -20,11 +21,13 @@ use Rattle.cond_text.proofs.FaultLemmas.{one_fault}
 use Rattle.cond_text.proofs.LimitLemmas.{fine_all, fine_term}
 
 pub judge_step : (count size : ℕ) (s next : State) (terms : ℕ) (rest : List Placed) (p : Placed × List Placed) → Some p ≡ uncons rest
-    → advance count s terms p.0.place (begins_with_name p.1) p.0.word ≡ Ok next → judge count size next (terms + weight p.0.word) p.1 ≡ judge count size s terms rest
+    → advance count s terms p.0.place (begins_with_name p.1) p.0.word ≡ Ok next
+    → judge count size next (terms + weight p.0.word) p.1 ≡ judge count size s terms rest
 judge_step count size s next terms [] p e h = absurd (cc)
 judge_step count size s next terms (y ∷ ys) p e h =
     let same : p ≡ (y, ys) = cc in
-    let family : Placed × List Placed → Type 0 = λ q. advance count s terms q.0.place (begins_with_name q.1) q.0.word ≡ Ok next → judge count size next (terms + weight q.0.word) q.1 ≡ judge count size s terms (y ∷ ys) in
+    let family : Placed × List Placed → Type 0 = λ q. advance count s terms q.0.place (begins_with_name q.1) q.0.word ≡ Ok next
+    → judge count size next (terms + weight q.0.word) q.1 ≡ judge count size s terms (y ∷ ys) in
     let at : family (y, ys) = λ k. sym (ap (λ r. r >>= λ n. judge count size n (terms + weight y.word) ys) k) in
     (subst family (sym same) at) h
 
@@ -38,7 +41,8 @@ weight_one Open = omega arith
 weight_one Close = omega arith
 weight_one Stray = omega arith
 
-pub few_step : (terms : ℕ) (rest : List Placed) (p : Placed × List Placed) → Some p ≡ uncons rest → (terms + weight p.0.word) + length p.1 ≤ terms + length rest
+pub few_step : (terms : ℕ) (rest : List Placed) (p : Placed × List Placed) → Some p ≡ uncons rest
+    → (terms + weight p.0.word) + length p.1 ≤ terms + length rest
 few_step terms [] p e = absurd (cc)
 few_step terms (y ∷ ys) p e =
     let same : p ≡ (y, ys) = cc in
@@ -80,26 +84,30 @@ first_of names text (Err (TooDeep place)) h = told_err (length names) (length te
 first_of names text (Err Memory) h = tt
 
 -- what is read has few terms, each of a role
-pub known_of : (names : List (List ℕ)) (text : List ℕ) (r : Result Cond CondError) → IsRead names text r → IfOk r (λ cond. IsKnown (length names) (term_of cond))
+pub known_of : (names : List (List ℕ)) (text : List ℕ) (r : Result Cond CondError) → IsRead names text r
+    → IfOk r (λ cond. IsKnown (length names) (term_of cond))
 known_of names text (Ok cond) h =
     let f = told_ok (length names) (length text) (placed_words names text) (term_of cond) h in
     (fine_term (length names) (placed_words names text) (term_of cond) f.0 f.1).0
 known_of names text (Err error) h = tt
 
-pub few_of : (names : List (List ℕ)) (text : List ℕ) (r : Result Cond CondError) → IsRead names text r → IfOk r (λ cond. term_count (term_of cond) ≤ MOST_TERMS)
+pub few_of : (names : List (List ℕ)) (text : List ℕ) (r : Result Cond CondError) → IsRead names text r
+    → IfOk r (λ cond. term_count (term_of cond) ≤ MOST_TERMS)
 few_of names text (Ok cond) h =
     let f = told_ok (length names) (length text) (placed_words names text) (term_of cond) h in
     (fine_term (length names) (placed_words names text) (term_of cond) f.0 f.1).1
 few_of names text (Err error) h = tt
 
-pub told_of : (names : List (List ℕ)) (text : List ℕ) (r : Result Cond CondError) → IsRead names text r → (fault : CondError) → IsFirstOf names text fault → Refuses r fault
+pub told_of : (names : List (List ℕ)) (text : List ℕ) (r : Result Cond CondError) → IsRead names text r → (fault : CondError)
+    → IsFirstOf names text fault → Refuses r fault
 told_of names text (Ok cond) h fault first =
     let f = told_ok (length names) (length text) (placed_words names text) (term_of cond) h in
     clash (length names) (length text) (placed_words names text) [] fault (term_of cond) first f.1 f.0
 told_of names text (Err (Unexpected place)) h fault first =
     inl (one_fault (length names) (length text) [] (placed_words names text) (Unexpected place) fault (first_of names text (Err (Unexpected place)) h) first)
 told_of names text (Err (UnknownRole place)) h fault first =
-    inl (one_fault (length names) (length text) [] (placed_words names text) (UnknownRole place) fault (first_of names text (Err (UnknownRole place)) h) first)
+    inl (one_fault (length names) (length text) [] (placed_words names text) (UnknownRole place) fault
+    (first_of names text (Err (UnknownRole place)) h) first)
 told_of names text (Err (TooDeep place)) h fault first =
     inl (one_fault (length names) (length text) [] (placed_words names text) (TooDeep place) fault (first_of names text (Err (TooDeep place)) h) first)
 told_of names text (Err Memory) h fault first = inr refl

@@ -10,6 +10,7 @@ use Rattle.cond_text.specs.declared.level.Level.TheVariants.{Operand, Conjunctio
 use Rattle.arbac_policy.specs.Truth.{Term}
 use Rattle.cond_text.specs.Grammar.{Phrase, an_any, a_name, a_not, enclosed, an_and, an_or, IsAt, spell, value, Stands}
 use Rattle.cond_text.specs.Machine.{Frame, State, wants_operand, wants_name, has_conjunction, and_with, or_with, step, go, finish, start, accept}
+use Rattle.list_words.proofs.GetLemmas.{same_some}
 
 -- a phrase of the level, where there is one
 abbrev IsMaybe : Level → Option Phrase → Type 0
@@ -66,28 +67,31 @@ record Next (draw : Draw) (w : Word) (next : State) : Type 0 where
   same : state_of drawn ≡ next
   spelled : (rest : List Word) → spell_draw drawn rest ≡ spell_draw draw (w ∷ rest)
 
-operand_next : (draw : Draw) (w : Word) (ds : List Draft) (ors ands : Option Phrase) (q : Phrase) (next : State) → IsMaybe Condition ors → IsMaybe Conjunction ands → IsAt Operand q → IsAt Conjunction q
+operand_next : (draw : Draw) (w : Word) (ds : List Draft) (ors ands : Option Phrase) (q : Phrase) (next : State) → IsMaybe Condition ors
+    → IsMaybe Conjunction ands → IsAt Operand q → IsAt Conjunction q
     → ((rest : List Word) → spell_drafts ds (spell_ors ors (spell_ands ands (spell q rest))) ≡ spell_draw draw (w ∷ rest))
     → has_conjunction (map frame_of ds) (option_map value ors) (and_with (option_map value ands) (value q)) ≡ next
     → Next draw w next
 operand_next draw w ds ors None q next h k i j spelled e = record { drawn = drawn_conjunction ds ors q h j; same = e; spelled = spelled }
-operand_next draw w ds ors (Some p) q next h k i j spelled e = record { drawn = drawn_conjunction ds ors (an_and p q) h (refl, k, i); same = e; spelled = spelled }
+operand_next draw w ds ors (Some p) q next h k i j spelled e =
+    record { drawn = drawn_conjunction ds ors (an_and p q) h (refl, k, i); same = e; spelled = spelled }
 
-same_some : (s t : State) → Some s ≡ Some t → s ≡ t
-same_some s t e = cc
-
-wanting_next : (ds : List Draft) (d : Draft) (w : Word) (next : State) → step (state_of (drawn_operand ds d)) w ≡ Some next → Next (drawn_operand ds d) w next
+wanting_next : (ds : List Draft) (d : Draft) (w : Word) (next : State) → step (state_of (drawn_operand ds d)) w ≡ Some next
+    → Next (drawn_operand ds d) w next
 wanting_next ds d Any next e = operand_next (drawn_operand ds d) Any ds d.ors d.ands an_any next d.ors_at d.ands_at tt tt (λ rest. refl) (same_some _ _ e)
-wanting_next ds d (Name role) next e = operand_next (drawn_operand ds d) (Name role) ds d.ors d.ands (a_name role) next d.ors_at d.ands_at tt tt (λ rest. refl) (same_some _ _ e)
+wanting_next ds d (Name role) next e =
+    operand_next (drawn_operand ds d) (Name role) ds d.ors d.ands (a_name role) next d.ors_at d.ands_at tt tt (λ rest. refl) (same_some _ _ e)
 wanting_next ds d Not next e = record { drawn = drawn_name ds d; same = same_some _ _ e; spelled = λ rest. refl }
-wanting_next ds d Open next e = record { drawn = drawn_operand (d ∷ ds) (record { ors = None; ands = None; ors_at = tt; ands_at = tt }); same = same_some _ _ e; spelled = λ rest. refl }
+wanting_next ds d Open next e =
+    record { drawn = drawn_operand (d ∷ ds) (record { ors = None; ands = None; ors_at = tt; ands_at = tt }); same = same_some _ _ e; spelled = λ rest. refl }
 wanting_next ds d And next e = absurd (cc)
 wanting_next ds d Or next e = absurd (cc)
 wanting_next ds d Close next e = absurd (cc)
 wanting_next ds d Stray next e = absurd (cc)
 
 naming_next : (ds : List Draft) (d : Draft) (w : Word) (next : State) → step (state_of (drawn_name ds d)) w ≡ Some next → Next (drawn_name ds d) w next
-naming_next ds d (Name role) next e = operand_next (drawn_name ds d) (Name role) ds d.ors d.ands (a_not role) next d.ors_at d.ands_at tt tt (λ rest. refl) (same_some _ _ e)
+naming_next ds d (Name role) next e =
+    operand_next (drawn_name ds d) (Name role) ds d.ors d.ands (a_not role) next d.ors_at d.ands_at tt tt (λ rest. refl) (same_some _ _ e)
 naming_next ds d Any next e = absurd (cc)
 naming_next ds d Not next e = absurd (cc)
 naming_next ds d Open next e = absurd (cc)
@@ -118,14 +122,16 @@ or_phrase_spelled (Some q) p rest = refl
 
 having_next : (ds : List Draft) (ors : Option Phrase) (p : Phrase) (h : IsMaybe Condition ors) (k : IsAt Conjunction p) (w : Word) (next : State)
     → step (state_of (drawn_conjunction ds ors p h k)) w ≡ Some next → Next (drawn_conjunction ds ors p h k) w next
-having_next ds ors p h k And next e = record { drawn = drawn_operand ds (record { ors = ors; ands = Some p; ors_at = h; ands_at = k }); same = same_some _ _ e; spelled = λ rest. refl }
+having_next ds ors p h k And next e =
+    record { drawn = drawn_operand ds (record { ors = ors; ands = Some p; ors_at = h; ands_at = k }); same = same_some _ _ e; spelled = λ rest. refl }
 having_next ds ors p h k Or next e = record {
   drawn = drawn_operand ds (record { ors = Some (or_phrase ors p); ands = None; ors_at = or_phrase_at ors p h k; ands_at = tt });
   same = ap (λ t. wants_operand (map frame_of ds) (record { ors = Some t; ands = None })) (or_phrase_value ors p) ∙ same_some _ _ e;
   spelled = λ rest. ap (spell_drafts ds) (or_phrase_spelled ors p (Or ∷ rest));
 }
 having_next [] ors p h k Close next e = absurd (cc)
-having_next (d ∷ ds) ors p h k Close next e = operand_next (drawn_conjunction (d ∷ ds) ors p h k) Close ds d.ors d.ands (enclosed (or_phrase ors p)) next d.ors_at d.ands_at
+having_next (d ∷ ds) ors p h k Close next e =
+    operand_next (drawn_conjunction (d ∷ ds) ors p h k) Close ds d.ors d.ands (enclosed (or_phrase ors p)) next d.ors_at d.ands_at
     (or_phrase_at ors p h k) (or_phrase_at ors p h k)
     (λ rest. ap (λ words. spell_drafts ds (spell_draft d (Open ∷ words))) (or_phrase_spelled ors p (Close ∷ rest)))
     (ap (λ t. has_conjunction (map frame_of ds) (option_map value d.ors) (and_with (option_map value d.ands) t)) (or_phrase_value ors p) ∙ same_some _ _ e)

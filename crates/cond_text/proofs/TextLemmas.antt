@@ -1,5 +1,6 @@
 -- The words of what is written are the phrase's.
-use Rattle.std.proofs.Common.{ℕ, ◌≡◌, ◌≢◌, ◌+◌, ◌∙◌, ap, subst, sym, refl, Bool, true, false, cond, List, [], ◌∷◌, ◌++◌, append_assoc, append-nil, length, get_or, Option, Some, None}
+use Rattle.std.proofs.Common.{ℕ, ◌≡◌, ◌≢◌, ◌+◌, ◌∙◌, ap, subst, sym, refl, Bool, true, false, cond, List, [], ◌∷◌, ◌++◌}
+use Rattle.std.proofs.Common.{append_assoc, append-nil, length, get_or, Option, Some, None}
 use Rattle.std.specs.Prelude.{codes}
 use Rattle.std.specs.List.{list_all, take_while}
 use Rattle.std.proofs.lemmas.Bool.{false≢true}
@@ -32,7 +33,8 @@ placed_plain : (place : ℕ) (o : Option Word) (xs : List Placed) → plain (pla
 placed_plain place None xs = refl
 placed_plain place (Some w) xs = refl
 
-pub same_bare : (names : List (List ℕ)) (place : ℕ) (behind_name : Bool) (bs : List ℕ) → plain (words_from names place behind_name bs) ≡ bare names behind_name bs
+pub same_bare : (names : List (List ℕ)) (place : ℕ) (behind_name : Bool) (bs : List ℕ)
+    → plain (words_from names place behind_name bs) ≡ bare names behind_name bs
 unfolding words_from bare
 same_bare names place behind_name [] = refl
 same_bare names place behind_name (b ∷ bs) =
@@ -68,11 +70,14 @@ chosen true o p e = refl
 chosen false o p e = absurd (false≢true e)
 
 -- the word that a name byte begins
-named_first : (names : List (List ℕ)) (b : ℕ) (bs run : List ℕ) → is_name_byte b ≡ true → take_while is_name_byte (b ∷ bs) ≡ run → word_at names false (b ∷ bs) ≡ Some (word_of names run)
-named_first names b bs run h e = chosen (is_name_byte b) (Some (word_of names (take_while is_name_byte (b ∷ bs)))) (sign b) h ∙ ap (λ r. Some (word_of names r)) e
+named_first : (names : List (List ℕ)) (b : ℕ) (bs run : List ℕ) → is_name_byte b ≡ true → take_while is_name_byte (b ∷ bs) ≡ run
+    → word_at names false (b ∷ bs) ≡ Some (word_of names run)
+named_first names b bs run h e =
+    chosen (is_name_byte b) (Some (word_of names (take_while is_name_byte (b ∷ bs)))) (sign b) h ∙ ap (λ r. Some (word_of names r)) e
 
 -- a name, and what follows it
-name_words : (names : List (List ℕ)) (name rest : List ℕ) (w : Word) → list_all is_name_byte name ≡ true → name ≢ [] → word_of names name ≡ w → Stops rest
+name_words : (names : List (List ℕ)) (name rest : List ℕ) (w : Word) → list_all is_name_byte name ≡ true → name ≢ [] → word_of names name ≡ w
+    → Stops rest
     → bare names false (name ++ rest) ≡ w ∷ bare names false rest
 unfolding bare
 name_words names [] rest w all ne e stops = absurd (ne refl)
@@ -112,7 +117,8 @@ written_words : (names : List (List ℕ)) → AreProper names → (p : Phrase) (
     → bare names false (written names p ++ rest) ≡ spell p (bare names false rest)
 unfolding written
 written_words names proper an_any rest h stops = any_words names rest stops
-written_words names proper (a_name role) rest h stops = let n = proper role h in name_words names (get_or names role []) rest (Name role) n.bytes n.some n.word stops
+written_words names proper (a_name role) rest h stops =
+    let n = proper role h in name_words names (get_or names role []) rest (Name role) n.bytes n.some n.word stops
 written_words names proper (a_not role) rest h stops =
     let n = proper role h in
     ap (bare names false) (append_assoc (codes "not ") (get_or names role []) rest) ∙ not_words names (get_or names role [] ++ rest)
@@ -122,11 +128,13 @@ written_words names proper (enclosed p) rest h stops =
     ∙ ap (λ l. Open ∷ l) (ap (bare names false) (append_assoc (written names p) (codes ")") rest)
     ∙ written_words names proper p (codes ")" ++ rest) h refl ∙ ap (spell p) (close_words names rest))
 written_words names proper (an_and p q) rest h stops =
-    ap (bare names false) (append_assoc (written names p) (codes " and " ++ written names q) rest ∙ ap (λ l. written names p ++ l) (append_assoc (codes " and ") (written names q) rest))
+    ap (bare names false) (append_assoc (written names p) (codes " and " ++ written names q) rest
+    ∙ ap (λ l. written names p ++ l) (append_assoc (codes " and ") (written names q) rest))
     ∙ written_words names proper p (codes " and " ++ (written names q ++ rest)) h.0 refl
     ∙ ap (spell p) (and_words names (written names q ++ rest) ∙ ap (λ l. And ∷ l) (written_words names proper q rest h.1 stops))
 written_words names proper (an_or p q) rest h stops =
-    ap (bare names false) (append_assoc (written names p) (codes " or " ++ written names q) rest ∙ ap (λ l. written names p ++ l) (append_assoc (codes " or ") (written names q) rest))
+    ap (bare names false) (append_assoc (written names p) (codes " or " ++ written names q) rest
+    ∙ ap (λ l. written names p ++ l) (append_assoc (codes " or ") (written names q) rest))
     ∙ written_words names proper p (codes " or " ++ (written names q ++ rest)) h.0 refl
     ∙ ap (spell p) (or_words names (written names q ++ rest) ∙ ap (λ l. Or ∷ l) (written_words names proper q rest h.1 stops))
 
@@ -138,7 +146,8 @@ known_along : (count : ℕ) (t u : Term) → t ≡ u → IsKnown count u → IsK
 known_along count t u e h = let P : Term → Type 0 = λ v. IsKnown count v in subst P (sym e) h
 
 -- the words of a term's text are those of its phrase
-pub text_words : (names : List (List ℕ)) (t : Term) → AreProper names → IsKnown (length names) t → words names (text_of names t) ≡ spell (phrase_at Condition t) []
+pub text_words : (names : List (List ℕ)) (t : Term) → AreProper names → IsKnown (length names) t
+    → words names (text_of names t) ≡ spell (phrase_at Condition t) []
 text_words names t proper h =
     same_bare names 0 false (text_of names t) ∙ ap (bare names false) (sym (append-nil (text_of names t)))
     ∙ written_words names proper (phrase_at Condition t) [] (known_along (length names) (value (phrase_at Condition t)) t (phrase_value Condition t) h) tt
@@ -147,4 +156,10 @@ text_words names t proper h =
 -- a term's text stands for it
 pub text_stands : (names : List (List ℕ)) (t : Term) → AreProper names → IsKnown (length names) t → StandsFor names (text_of names t) t
 text_stands names t proper h =
-    record { phrase = phrase_at Condition t; whole = phrase_at_level Condition t; spelled = sym (text_words names t proper h); valued = phrase_value Condition t }
+    record {
+      phrase = phrase_at Condition t;
+      whole = phrase_at_level Condition t;
+      spelled = sym
+          (text_words names t proper h);
+      valued = phrase_value Condition t;
+    }

@@ -12,7 +12,9 @@ abbrev five : List ℕ → List ℕ → List ℕ → List ℕ → List ℕ → L
 five old o a m b c = ((((old ++ o) ++ a) ++ m) ++ b) ++ c
 
 bare_five : (old a m b : List ℕ) → five old [] a m b [] ≡ old ++ (a ++ (m ++ b))
-bare_five old a m b = append-nil ((((old ++ []) ++ a) ++ m) ++ b) ∙ ap (λ l. ((l ++ a) ++ m) ++ b) (append-nil old) ∙ append_assoc (old ++ a) m b ∙ append_assoc old a (m ++ b)
+bare_five old a m b =
+    append-nil ((((old ++ []) ++ a) ++ m) ++ b) ∙ ap (λ l. ((l ++ a) ++ m) ++ b) (append-nil old) ∙ append_assoc (old ++ a) m b
+    ∙ append_assoc old a (m ++ b)
 
 enclosed_five : (old o a m b c : List ℕ) → five old o a m b c ≡ old ++ (o ++ ((a ++ (m ++ b)) ++ c))
 enclosed_five old o a m b c =
@@ -45,19 +47,23 @@ or_parts names p q = refl
 
 pub and_written : (names : List (List ℕ)) (level : Level) (free : Bool) (t u : Term) (old o1 a1 m1 b1 c1 o c : List ℕ) → free ≡ takes_and level
     → o ≡ cond free [] (codes "(") → c ≡ cond free [] (codes ")")
-    → o1 ≡ old ++ o → a1 ≡ o1 ++ written names (phrase_at Conjunction t) → m1 ≡ a1 ++ codes " and " → b1 ≡ m1 ++ written names (phrase_at Operand u) → c1 ≡ b1 ++ c
+    → o1 ≡ old ++ o → a1 ≡ o1 ++ written names (phrase_at Conjunction t) → m1 ≡ a1 ++ codes " and "
+    → b1 ≡ m1 ++ written names (phrase_at Operand u) → c1 ≡ b1 ++ c
     → c1 ≡ old ++ written names (phrase_at level (both t u))
 and_written names level free t u old o1 a1 m1 b1 c1 o c e eo ec e1 e2 e3 e4 e5 =
-    pieces_written names free (an_and (phrase_at Conjunction t) (phrase_at Operand u)) old (written names (phrase_at Conjunction t)) (codes " and ") (written names (phrase_at Operand u))
+    pieces_written names free (an_and (phrase_at Conjunction t) (phrase_at Operand u)) old (written names (phrase_at Conjunction t))
+    (codes " and ") (written names (phrase_at Operand u))
     o1 a1 m1 b1 c1 o c (and_parts names (phrase_at Conjunction t) (phrase_at Operand u)) eo ec e1 e2 e3 e4 e5
     ∙ ap (λ f. old ++ written names (free_if f (an_and (phrase_at Conjunction t) (phrase_at Operand u)))) e
 
 pub or_written : (names : List (List ℕ)) (level : Level) (free : Bool) (t u : Term) (old o1 a1 m1 b1 c1 o c : List ℕ) → free ≡ takes_or level
     → o ≡ cond free [] (codes "(") → c ≡ cond free [] (codes ")")
-    → o1 ≡ old ++ o → a1 ≡ o1 ++ written names (phrase_at Condition t) → m1 ≡ a1 ++ codes " or " → b1 ≡ m1 ++ written names (phrase_at Conjunction u) → c1 ≡ b1 ++ c
+    → o1 ≡ old ++ o → a1 ≡ o1 ++ written names (phrase_at Condition t) → m1 ≡ a1 ++ codes " or "
+    → b1 ≡ m1 ++ written names (phrase_at Conjunction u) → c1 ≡ b1 ++ c
     → c1 ≡ old ++ written names (phrase_at level (either t u))
 or_written names level free t u old o1 a1 m1 b1 c1 o c e eo ec e1 e2 e3 e4 e5 =
-    pieces_written names free (an_or (phrase_at Condition t) (phrase_at Conjunction u)) old (written names (phrase_at Condition t)) (codes " or ") (written names (phrase_at Conjunction u))
+    pieces_written names free (an_or (phrase_at Condition t) (phrase_at Conjunction u)) old (written names (phrase_at Condition t)) (codes " or ")
+    (written names (phrase_at Conjunction u))
     o1 a1 m1 b1 c1 o c (or_parts names (phrase_at Condition t) (phrase_at Conjunction u)) eo ec e1 e2 e3 e4 e5
     ∙ ap (λ f. old ++ written names (free_if f (an_or (phrase_at Condition t) (phrase_at Conjunction u)))) e
 
@@ -69,7 +75,8 @@ pub has_written : (names : List (List ℕ)) (level : Level) (role : ℕ) → wri
 unfolding written
 has_written names level role = refl
 
-pub lacks_written : (names : List (List ℕ)) (level : Level) (role : ℕ) (old mid new : List ℕ) → mid ≡ old ++ codes "not " → new ≡ mid ++ get_or names role []
+pub lacks_written : (names : List (List ℕ)) (level : Level) (role : ℕ) (old mid new : List ℕ) → mid ≡ old ++ codes "not "
+    → new ≡ mid ++ get_or names role []
     → new ≡ old ++ written names (phrase_at level (lacks role))
 unfolding written
 lacks_written names level role old mid new e f = f ∙ ap (λ l. l ++ get_or names role []) e ∙ append_assoc old (codes "not ") (get_or names role [])

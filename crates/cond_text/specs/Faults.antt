@@ -41,6 +41,7 @@ abbrev pub open_after : ℕ → List Word → ℕ
 open_after nested [] = nested
 open_after nested (w ∷ ws) = open_after (open_behind nested w) ws
 
+-- the words begin with a name
 abbrev pub BeginsWithName : List Placed → Type 0
 BeginsWithName [] = ⊥
 BeginsWithName (x ∷ xs) = (role : ℕ) × (x.word ≡ Name role)

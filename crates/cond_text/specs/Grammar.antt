@@ -10,6 +10,7 @@ use Rattle.cond_text.specs.declared.level.Level.TheVariants.{Operand, Conjunctio
 use Rattle.cond_text.specs.declared.word.Word.{Word}
 use Rattle.cond_text.specs.declared.word.Word.TheVariants.{Any, Name, Not, And, Or, Open, Close}
 
+-- the phrases of the grammar
 pub data Phrase : Type 0 where
   an_any : Phrase
   a_name : ℕ → Phrase

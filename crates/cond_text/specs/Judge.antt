@@ -11,6 +11,7 @@ use Rattle.cond_text.specs.Machine.{State, wants_operand, wants_name, has_conjun
 use Rattle.cond_text.specs.Faults.{weight}
 
 infixl 10 ◌>>=◌
+-- the first one's fault, or what the second comes to
 abbrev pub ◌>>=◌ : {A B : Type 0} → Result A CondError → (A → Result B CondError) → Result B CondError
 (Ok x) >>= f = f x
 (Err e) >>= f = Err e
@@ -21,6 +22,7 @@ open_in (wants_operand fs f) = length fs
 open_in (wants_name fs f) = length fs
 open_in (has_conjunction fs ors t) = length fs
 
+-- the word is a name
 abbrev pub is_name : Word → Bool
 is_name (Name role) = true
 is_name Any = false
@@ -31,6 +33,7 @@ is_name Open = false
 is_name Close = false
 is_name Stray = false
 
+-- the words begin with a name
 abbrev pub begins_with_name : List Placed → Bool
 begins_with_name [] = false
 begins_with_name (x ∷ xs) = is_name x.word
@@ -47,10 +50,12 @@ limit count terms nested place ahead Or = None
 limit count terms nested place ahead Close = None
 limit count terms nested place ahead Stray = None
 
+-- the state, or this fault where there is none
 abbrev pub or_fault : Option State → CondError → Result State CondError
 or_fault None fault = Err fault
 or_fault (Some s) fault = Ok s
 
+-- the fault, or this state where there is none
 abbrev pub unless : Option CondError → State → Result State CondError
 unless None s = Ok s
 unless (Some fault) s = Err fault
@@ -60,6 +65,7 @@ abbrev pub advance : ℕ → State → ℕ → ℕ → Bool → Word → Result 
 advance count s terms place ahead w =
     or_fault (step s w) (Unexpected place) >>= λ next. unless (limit count terms (open_in s) place ahead w) next
 
+-- the term, or an unexpected end where there is none
 abbrev pub ending : ℕ → Option Term → Result Term CondError
 ending size None = Err (Unexpected size)
 ending size (Some t) = Ok t

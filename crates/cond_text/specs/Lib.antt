@@ -6,3 +6,6 @@ pub mod Printing
 pub mod Machine
 pub mod Judge
 pub mod Views
+pub mod Cuts
+pub mod Ranges
+pub mod Named

@@ -16,6 +16,7 @@ pub data State : Type 0 where
   wants_name : List Frame → Frame → State
   has_conjunction : List Frame → Option Term → Term → State
 
+-- nothing stands before the operand
 abbrev pub no_frame : Frame
 no_frame = record { ors = None; ands = None }
 
@@ -24,13 +25,16 @@ abbrev pub and_with : Option Term → Term → Term
 and_with None u = u
 and_with (Some t) u = both t u
 
+-- the term behind an "or", with what stands before it
 abbrev pub or_with : Option Term → Term → Term
 or_with None u = u
 or_with (Some t) u = either t u
 
+-- behind an operand
 abbrev pub operand_read : List Frame → Frame → Term → State
 operand_read fs f t = has_conjunction fs f.ors (and_with f.ands t)
 
+-- a word where an operand is wanted
 abbrev pub step_operand : List Frame → Frame → Word → Option State
 step_operand fs f Any = Some (operand_read fs f any)
 step_operand fs f (Name role) = Some (operand_read fs f (has role))
@@ -41,6 +45,7 @@ step_operand fs f Or = None
 step_operand fs f Close = None
 step_operand fs f Stray = None
 
+-- a word where a name is wanted
 abbrev pub step_name : List Frame → Frame → Word → Option State
 step_name fs f (Name role) = Some (operand_read fs f (lacks role))
 step_name fs f Any = None
@@ -56,6 +61,7 @@ abbrev pub closing : List Frame → Term → Option State
 closing [] t = None
 closing (f ∷ fs) t = Some (operand_read fs f t)
 
+-- a word behind an operand
 abbrev pub step_conjunction : List Frame → Option Term → Term → Word → Option State
 step_conjunction fs ors t And = Some (wants_operand fs (record { ors = ors; ands = Some t }))
 step_conjunction fs ors t Or = Some (wants_operand fs (record { ors = Some (or_with ors t); ands = None }))
@@ -72,6 +78,7 @@ step (wants_operand fs f) w = step_operand fs f w
 step (wants_name fs f) w = step_name fs f w
 step (has_conjunction fs ors t) w = step_conjunction fs ors t w
 
+-- the words, one after another
 abbrev pub go : State → List Word → Option State
 go s [] = Some s
 go s (w ∷ ws) = option_and_then (λ next. go next ws) (step s w)
@@ -83,8 +90,10 @@ finish (wants_name fs f) = None
 finish (has_conjunction [] ors t) = Some (or_with ors t)
 finish (has_conjunction (f ∷ fs) ors t) = None
 
+-- nothing is read yet
 abbrev pub start : State
 start = wants_operand [] no_frame
 
+-- the term that the words stand for, if they do
 abbrev pub accept : List Word → Option Term
 accept ws = option_and_then finish (go start ws)

@@ -9,6 +9,7 @@ use Rattle.cond_text.specs.declared.reader.State as s
 use Rattle.cond_text.specs.declared.reader.State.TheVariants as v
 use Rattle.cond_text.specs.Machine.{Frame, State, wants_operand, wants_name, has_conjunction}
 
+-- what a kept frame is seen as
 abbrev pub frame_of : f.Frame → Frame
 frame_of x = record { ors = option_map term_of x.ors; ands = option_map term_of x.ands }
 
@@ -16,6 +17,7 @@ frame_of x = record { ors = option_map term_of x.ors; ands = option_map term_of 
 abbrev pub stack_of : List f.Frame → List Frame
 stack_of xs = reverse (map frame_of xs)
 
+-- what a kept state is seen as
 abbrev pub state_of : s.State → State
 state_of (v.WantsOperand outer frame) = wants_operand (stack_of outer.items) (frame_of frame)
 state_of (v.WantsName outer frame) = wants_name (stack_of outer.items) (frame_of frame)

@@ -1,6 +1,7 @@
 -- The words of a text. A run of name bytes is one word, "(" and ")" are one each, spaces and tabs
 -- stand between words, and every other byte is a word that stands nowhere.
-use Rattle.std.specs.Prelude.{ℕ, ◌+◌, Bool, false, ◌==◌, ◌||◌, if◌then◌else◌, List, [], ◌∷◌, ◌++◌, length, codes, Option, Some, None}
+use Rattle.std.specs.Prelude.{ℕ, ◌+◌, Bool, false, ◌==◌, ◌||◌, if◌then◌else◌, List, [], ◌∷◌, ◌++◌, length, codes, Option, Some}
+use Rattle.std.specs.Prelude.{None}
 use Rattle.std.specs.List.{take_while}
 use Rattle.std.specs.Option.{unwrap_or}
 use Rattle.std.specs.Str.{bytes_eq}
@@ -38,6 +39,7 @@ word_at names behind_name (b ∷ bs) =
     if is_name_byte b then (if behind_name then None else Some (word_of names (take_while is_name_byte (b ∷ bs))))
     else sign b
 
+-- the word with its place, if there is one
 abbrev pub placed : ℕ → Option Word → List Placed
 placed place None = []
 placed place (Some word) = record { place = place; word = word } ∷ []

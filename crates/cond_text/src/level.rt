@@ -1,7 +1,7 @@
 //! What may stand at a place of a condition.
 
 ghost use Rattle.std.specs.Prelude.{◌≡◌};
-ghost use Rattle.cond_text.specs.Grammar.{takes_and as free_and, takes_or as free_or};
+ghost use Rattle.cond_text.specs.Grammar as grammar;
 
 /// What is wanted at a place of a condition. An operand serves everywhere, a conjunction
 /// wherever a condition does.
@@ -18,7 +18,7 @@ pub enum Level {
 impl Level {
     /// Whether an `and` stands here without parentheses.
     pub fn takes_and(self) -> bool
-        ensures { result ≡ free_and self }
+        ensures { result ≡ grammar.takes_and self }
     {
         match self {
             Level::Operand => false,
@@ -29,7 +29,7 @@ impl Level {
 
     /// Whether an `or` stands here without parentheses.
     pub fn takes_or(self) -> bool
-        ensures { result ≡ free_or self }
+        ensures { result ≡ grammar.takes_or self }
     {
         match self {
             Level::Operand => false,

@@ -1,10 +1,12 @@
-//! The text of conditions, read and written.
+//! The text of conditions and ranges, read and written.
 #![tactic(auto)]
 
 mod cond_error;
+mod cuts;
 mod level;
 mod parsing;
 mod printing;
+mod ranges;
 mod reader;
 #[cfg(test)]
 mod tests;
@@ -12,8 +14,10 @@ mod word;
 mod words;
 
 pub use cond_error::CondError;
+pub use cuts::{cut, name_of};
 pub use parsing::parse_cond;
 pub use printing::print_cond;
+pub use ranges::{NamedRange, range_of, read_range};
 pub use std::alloc::AllocError as NoMemory;
 
 /// The greatest number of terms of a condition that is read.

@@ -2,10 +2,11 @@
 
 ghost use Rattle.std.specs.Prelude.{◌≡◌, ◌<◌, ◌≤◌, ◌^◌, length, IfOk, IfErr, option_map};
 ghost use Rattle.arbac_policy.specs.Truth.{Term, term_of, IsKnown};
-ghost use Rattle.cond_text.specs.Words.{placed_words as listed};
+ghost use Rattle.cond_text.specs.Words as words;
 ghost use Rattle.cond_text.specs.Machine.{start, finish};
-ghost use Rattle.cond_text.specs.Faults.{weight as term_weight};
-ghost use Rattle.cond_text.specs.Judge.{is_name as is_word_name, begins_with_name as name_first, open_in as open_now, limit, advance as advanced, ending, judge as judged};
+ghost use Rattle.cond_text.specs.Faults as faults;
+ghost use Rattle.cond_text.specs.Judge as judged;
+ghost use Rattle.cond_text.specs.Judge.{limit, ending};
 ghost use Rattle.cond_text.specs.Views.{state_of, uncons, Gives};
 ghost use Rattle.cond_text.specs.Grammar.{term_count};
 ghost use Rattle.cond_text.specs.Reading.{StandsFor, IsFaultless, IsWithin, Reads, IsRefused, IsFirstOf, Refuses};
@@ -20,7 +21,7 @@ use role_order::Order;
 use std::alloc::Global;
 
 fn is_name(word: Word) -> bool
-    ensures { result ≡ is_word_name word }
+    ensures { result ≡ judged.is_name word }
 {
     match word {
         Word::Name(_) => true,
@@ -35,7 +36,7 @@ fn is_name(word: Word) -> bool
 }
 
 fn begins_with_name(list: &[Placed]) -> bool
-    ensures { result ≡ name_first list.now }
+    ensures { result ≡ judged.begins_with_name list.now }
 {
     match list {
         [] => false,
@@ -45,7 +46,7 @@ fn begins_with_name(list: &[Placed]) -> bool
 
 /// One for the word that ends a term.
 fn weight(word: Word) -> usize
-    ensures { result ≡ term_weight word }
+    ensures { result ≡ faults.weight word }
 {
     match word {
         Word::Any => 1,
@@ -61,7 +62,7 @@ fn weight(word: Word) -> usize
 
 /// How many parentheses are open.
 fn open_in(state: &State) -> usize
-    ensures { result ≡ open_now (state_of state.now) }
+    ensures { result ≡ judged.open_in (state_of state.now) }
 {
     match state {
         State::WantsOperand { outer, .. } => outer.len(),
@@ -122,7 +123,7 @@ fn advance(
     name_follows: bool,
     found: Placed,
 ) -> Result<State, CondError>
-    ensures { Gives state_of result (advanced count (state_of state) terms found.place name_follows
+    ensures { Gives state_of result (judged.advance count (state_of state) terms found.place name_follows
         found.word) }
 {
     let nested = open_in(&state);
@@ -167,7 +168,7 @@ fn next_of(list: &[Placed]) -> Option<(Placed, &[Placed])>
 
 /// The condition of the words, where so many roles are, or the first fault.
 fn judge(alloc: Global, count: u16, size: u32, list: &[Placed]) -> Result<Cond, CondError>
-    ensures { Gives term_of result (judged count size start 0 list.now) }
+    ensures { Gives term_of result (judged.judge count size start 0 list.now) }
 {
     let mut state = State::WantsOperand {
         outer: Vec::new(alloc),
@@ -189,8 +190,8 @@ fn judge(alloc: Global, count: u16, size: u32, list: &[Placed]) -> Result<Cond, 
 /// The condition of the text, exactly.
 fn read(alloc: Global, order: &Order, text: &str) -> Result<Cond, CondError>
     requires { length text.now < 2 ^ 32 }
-    ensures { Gives term_of result (judged (length order.now.names) (length text.now) start 0
-        (listed order.now.names text.now)) }
+    ensures { Gives term_of result (judged.judge (length order.now.names) (length text.now) start 0
+        (words.placed_words order.now.names text.now)) }
 {
     let list = placed_words(alloc, order, text.as_bytes())?;
     judge(alloc, order.count(), text.len() as u32, list.as_slice())

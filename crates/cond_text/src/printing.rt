@@ -7,8 +7,8 @@ ghost use Rattle.cond_text.specs.Reading.{StandsFor, IsFaultless};
 ghost use Rattle.cond_text.specs.Grammar.{term_count};
 ghost use Rattle.cond_text.specs.Printing.{phrase_at, written, text_of, parentheses};
 
-use crate::MOST_TERMS;
 use crate::level::Level;
+use crate::{MOST_TERMS, NoMemory};
 use arbac_policy::Cond;
 use role_order::Order;
 use std::alloc::{AllocError, Global};
@@ -101,7 +101,7 @@ fn write_at(order: &Order, out: &mut String, level: Level, cond: &Cond) -> Resul
 /// Writes the condition so that it is read back; no text for it has fewer parentheses.
 ///
 /// Its calls nest as deep as the condition does.
-pub fn print_cond(alloc: Global, order: &Order, cond: &Cond) -> Result<String, AllocError>
+pub fn print_cond(alloc: Global, order: &Order, cond: &Cond) -> Result<String, NoMemory>
     requires { IsKnown (length order.now.names) (term_of cond.now) }
     ensures stands { IfOk result (λ text. StandsFor order.now.names (string_bytes text)
         (term_of cond.now)) }

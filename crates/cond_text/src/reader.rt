@@ -3,8 +3,10 @@
 ghost use Rattle.std.specs.Prelude.{◌≡◌, ◌∷◌, IfOk, option_map, Some};
 ghost use Rattle.arbac_policy.specs.Truth.{term_of};
 ghost use Rattle.cond_text.specs.Views.{frame_of, stack_of, state_of};
-ghost use Rattle.cond_text.specs.Machine.{and_with, or_with, operand_read, closing, step as next_state, step_operand as behind_operand, step_name as behind_name, step_conjunction as behind_conjunction};
+ghost use Rattle.cond_text.specs.Machine as machine;
+ghost use Rattle.cond_text.specs.Machine.{and_with, or_with, operand_read, closing};
 
+use crate::NoMemory;
 use crate::word::Word;
 use arbac_policy::Cond;
 use sqlite_items::Boxed;
@@ -50,7 +52,7 @@ fn and_of(alloc: Global, left: Option<Cond>, right: Cond) -> Result<Cond, AllocE
 }
 
 /// The condition with what stands before its `or`, if there is one.
-pub fn or_of(alloc: Global, left: Option<Cond>, right: Cond) -> Result<Cond, AllocError>
+pub fn or_of(alloc: Global, left: Option<Cond>, right: Cond) -> Result<Cond, NoMemory>
     ensures { IfOk result (λ cond. term_of cond ≡ or_with (option_map term_of left) (term_of right)) }
 {
     match left {
@@ -91,7 +93,7 @@ fn step_operand(
     frame: Frame,
     word: Word,
 ) -> Result<Option<State>, AllocError>
-    ensures { IfOk result (λ o. option_map state_of o ≡ behind_operand (stack_of outer.items)
+    ensures { IfOk result (λ o. option_map state_of o ≡ machine.step_operand (stack_of outer.items)
         (frame_of frame) word) }
 {
     match word {
@@ -118,7 +120,7 @@ fn step_name(
     frame: Frame,
     word: Word,
 ) -> Result<Option<State>, AllocError>
-    ensures { IfOk result (λ o. option_map state_of o ≡ behind_name (stack_of outer.items)
+    ensures { IfOk result (λ o. option_map state_of o ≡ machine.step_name (stack_of outer.items)
         (frame_of frame) word) }
 {
     match word {
@@ -150,7 +152,7 @@ fn step_conjunction(
     conjunction: Cond,
     word: Word,
 ) -> Result<Option<State>, AllocError>
-    ensures { IfOk result (λ o. option_map state_of o ≡ behind_conjunction (stack_of outer.items)
+    ensures { IfOk result (λ o. option_map state_of o ≡ machine.step_conjunction (stack_of outer.items)
         (option_map term_of ors) (term_of conjunction) word) }
 {
     match word {
@@ -178,8 +180,8 @@ fn step_conjunction(
 }
 
 /// The state behind the word, and none where the word can't stand here.
-pub fn step(alloc: Global, state: State, word: Word) -> Result<Option<State>, AllocError>
-    ensures { IfOk result (λ o. option_map state_of o ≡ next_state (state_of state) word) }
+pub fn step(alloc: Global, state: State, word: Word) -> Result<Option<State>, NoMemory>
+    ensures { IfOk result (λ o. option_map state_of o ≡ machine.step (state_of state) word) }
 {
     match state {
         State::WantsOperand { outer, frame } => step_operand(alloc, outer, frame, word),

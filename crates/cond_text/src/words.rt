@@ -3,9 +3,11 @@
 ghost use Rattle.std.specs.Prelude.{◌≡◌, ◌+◌, ◌<◌, ◌++◌, ◌^◌, length, IfOk, OnOk, codes};
 ghost use Rattle.std.specs.List.{take_while};
 ghost use Rattle.std.specs.Str.{bytes_eq};
-ghost use Rattle.role_order.specs.Names.{is_name_byte as is_byte};
-ghost use Rattle.cond_text.specs.Words.{role_or_count as role_number, word_of as word_named, sign as sign_word, word_at as word_begun, placed, placed_words as listed};
+ghost use Rattle.role_order.specs.Names as role_names;
+ghost use Rattle.cond_text.specs.Words as words;
+ghost use Rattle.cond_text.specs.Words.{placed};
 
+use crate::NoMemory;
 use crate::word::{Placed, Word};
 use role_order::{Order, is_name_byte};
 use std::alloc::{AllocError, Global};
@@ -36,7 +38,7 @@ fn is_or(run: &[u8]) -> bool
 
 /// The role of the name, or the number of roles where it is no role's.
 fn role_or_count(order: &Order, name: &[u8]) -> u16
-    ensures { result ≡ role_number order.now.names name.now }
+    ensures { result ≡ words.role_or_count order.now.names name.now }
 {
     match order.role_of_bytes(name) {
         Some(role) => role,
@@ -47,7 +49,7 @@ fn role_or_count(order: &Order, name: &[u8]) -> u16
 /// The word that a run of name bytes is.
 #[tactic(auto, unfolding(crate::specs::Words::word_of))]
 fn word_of(order: &Order, run: &[u8]) -> Word
-    ensures { result ≡ word_named order.now.names run.now }
+    ensures { result ≡ words.word_of order.now.names run.now }
 {
     if is_any(run) {
         Word::Any
@@ -64,7 +66,7 @@ fn word_of(order: &Order, run: &[u8]) -> Word
 
 /// The word that a byte is which is no name byte; a space or a tab is none.
 fn sign(b: u8) -> Option<Word>
-    ensures { result ≡ sign_word b }
+    ensures { result ≡ words.sign b }
 {
     if b == b' ' || b == b'\t' {
         None
@@ -78,21 +80,21 @@ fn sign(b: u8) -> Option<Word>
 }
 
 fn leading_count(text: &[u8]) -> usize
-    ensures { result ≡ length (take_while is_byte text.now) }
+    ensures { result ≡ length (take_while role_names.is_name_byte text.now) }
 {
     text.iter().take_while(|b| is_name_byte(**b)).count()
 }
 
 /// The name bytes that the text begins with.
 fn leading_name(text: &[u8]) -> &[u8]
-    ensures { result.now ≡ take_while is_byte text.now }
+    ensures { result.now ≡ take_while role_names.is_name_byte text.now }
 {
     &text[..leading_count(text)]
 }
 
 /// The word that begins with the first byte, behind a name byte or not.
 fn word_at(order: &Order, behind_name: bool, text: &[u8]) -> Option<Word>
-    ensures { result ≡ word_begun order.now.names behind_name text.now }
+    ensures { result ≡ words.word_at order.now.names behind_name text.now }
 {
     match text {
         [] => None,
@@ -118,9 +120,9 @@ fn add_word(list: &mut Vec<Placed>, place: u32, word: Option<Word>) -> Result<()
 }
 
 /// The words of the text, each with the place of its first byte.
-pub fn placed_words(alloc: Global, order: &Order, text: &[u8]) -> Result<Vec<Placed>, AllocError>
+pub fn placed_words(alloc: Global, order: &Order, text: &[u8]) -> Result<Vec<Placed>, NoMemory>
     requires { length text.now < 2 ^ 32 }
-    ensures { IfOk result (λ list. list.items ≡ listed order.now.names text.now) }
+    ensures { IfOk result (λ list. list.items ≡ words.placed_words order.now.names text.now) }
 {
     let mut list = Vec::new(alloc);
     let mut behind_name = false;

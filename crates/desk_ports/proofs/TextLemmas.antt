@@ -15,7 +15,8 @@ text_step (f ∷ fs) zero file name h e = let same : file ≡ f = e in rw same
 text_step (f ∷ fs) (suc i) file name h e = let n : suc i + 1 ≡ suc (i + 1) = omega arith in rw n (text_step fs i file name (omega arith) e)
 
 -- behind the last file there is no text
-pub text_end : (files : List (String Global × Vec ℕ Global)) (i : ℕ) (name : List ℕ) → length files ≤ i → text_named (texts_of (drop i files)) name ≡ []
+pub text_end : (files : List (String Global × Vec ℕ Global)) (i : ℕ) (name : List ℕ) → length files ≤ i
+    → text_named (texts_of (drop i files)) name ≡ []
 text_end [] zero name h = refl
 text_end [] (suc i) name h = refl
 text_end (f ∷ fs) zero name h = absurd (omega arith)

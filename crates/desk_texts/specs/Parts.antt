@@ -10,6 +10,7 @@ use Rattle.arbac_policy.specs.declared.verdict.Side.TheVariants.{Admin, Target}
 abbrev pub name_of : List (List ℕ) → ℕ → List ℕ
 name_of names role = slice_index_or names role []
 
+-- whose place it is
 abbrev pub side_word : Side → List ℕ
 side_word Admin = codes "admin "
 side_word Target = codes "target "

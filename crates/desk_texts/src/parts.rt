@@ -2,7 +2,8 @@
 
 ghost use Rattle.std.specs.Prelude.{ℕ, ◌≡◌, ◌++◌, OnOk, codes};
 ghost use Rattle.std.specs.Fmt.{decimal};
-ghost use Rattle.desk_texts.specs.Parts.{name_of, side_word as word_of_side, part_text};
+ghost use Rattle.desk_texts.specs.Parts as parts;
+ghost use Rattle.desk_texts.specs.Parts.{name_of, part_text};
 
 use arbac_policy::{Part, Side};
 use role_order::Order;
@@ -20,7 +21,7 @@ pub fn put_name(text: &mut Vec<u8>, order: &Order, role: u16) -> Result<(), Allo
 }
 
 fn side_word(side: Side) -> &'static str
-    ensures { result.now ≡ word_of_side side }
+    ensures { result.now ≡ parts.side_word side }
 {
     match side {
         Side::Admin => "admin ",
@@ -29,7 +30,7 @@ fn side_word(side: Side) -> &'static str
 }
 
 fn put_no_user(alloc: Global, text: &mut Vec<u8>, side: Side, place: u32) -> Result<(), AllocError>
-    ensures { OnOk result (text.new.items ≡ text.old.items ++ (codes "NoUser " ++ word_of_side side ++ decimal place)) }
+    ensures { OnOk result (text.new.items ≡ text.old.items ++ (codes "NoUser " ++ parts.side_word side ++ decimal place)) }
 {
     put(text, "NoUser ")?;
     put_count(alloc, text, side_word(side), place as u64)?;

@@ -1,5 +1,6 @@
 -- Counting over lists: of one place, of several places, and of items at rising numbers.
-use Rattle.std.proofs.Common.{ℕ, ◌≡◌, ◌<◌, ◌≤◌, ◌+◌, ◌-◌, List, [], ◌∷◌, length, get_or, drop, arith, suc, sym, ◌∙◌, ap, refl, Bool, true, false, cond, eqb, Option, Some, None, sum_by, count_by, inl, inr}
+use Rattle.std.proofs.Common.{ℕ, ◌≡◌, ◌<◌, ◌≤◌, ◌+◌, ◌-◌, List, [], ◌∷◌, length, get_or, drop, arith, suc, sym, ◌∙◌, ap}
+use Rattle.std.proofs.Common.{refl, Bool, true, false, cond, eqb, Option, Some, None, sum_by, count_by, inl, inr}
 use Rattle.std.specs.Prelude.{◌||◌, ◌⊎◌}
 use Rattle.std.specs.List.{list_any}
 use Rattle.std.specs.List.Sorted.{IsStrictlyIncreasing}

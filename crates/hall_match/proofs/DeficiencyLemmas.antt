@@ -2,7 +2,7 @@
 use Rattle.std.proofs.Common.{ℕ, ◌≡◌, ◌<◌, ◌≤◌, ◌+◌, List, length, arith, sym, refl, subst, Bool, true, Option, Some, None, eqb, inl, inr}
 use Rattle.std.specs.Prelude.{◌⊎◌, Contains}
 use Rattle.std.proofs.lemmas.Bool.{cases_lt, false≢true, eqb-true, eq-eqb, or_cases, or_left, or_right}
-use Rattle.hall_match.specs.Holding.{given_at, holders}
+use Rattle.hall_match.specs.Holding.{given_at, holder_count}
 use Rattle.hall_match.specs.Matchings.{IsDeficient, IsNeighbour, capacity_at}
 use Rattle.hall_match.specs.Rows.{row_at, HaveEdges}
 use Rattle.hall_match.specs.Search.{Instance, IsSeen, IsReachable, IsClosedRow}
@@ -85,5 +85,5 @@ module _ (s : Instance) (left : ℕ) (edges : List (ℕ × ℕ)) (seen : List Bo
     where
       limit : (place : ℕ) → IsSeen seen place
           → (most : ℕ) × (capacity_at s.capacities place ≡ Some most)
-      limit place e = let r = full_limit (capacity_at s.capacities place) (holders place s.given)
+      limit place e = let r = full_limit (capacity_at s.capacities place) (holder_count place s.given)
           (closed.closed.full place e) in (r.0, r.1)

@@ -1,5 +1,6 @@
 -- Edges that two loops list: item by item, and place by place.
-use Rattle.std.proofs.Common.{ℕ, ◌≡◌, ◌<◌, ◌+◌, Bool, true, false, eqb, List, [], ◌∷◌, ◌++◌, refl, arith, zero, suc, sym, subst, ap, inl, inr}
+use Rattle.std.proofs.Common.{ℕ, ◌≡◌, ◌<◌, ◌+◌, Bool, true, false, eqb, List, [], ◌∷◌, ◌++◌, refl, arith, zero, suc, sym, subst, ap}
+use Rattle.std.proofs.Common.{inl, inr}
 use Rattle.std.specs.Prelude.{◌⊎◌, ◌↔◌, Contains}
 use Rattle.std.proofs.lemmas.Bool.{eqb-true}
 use Rattle.std.proofs.lemmas.Bool.Decides.{nat_tests}
@@ -23,7 +24,8 @@ one_more init item at Goes k u (inl c) = inl c
 one_more init item at Goes k u (inr h) = inr (h.0, omega (arith, h.1), h.2)
 
 -- the item goes with the next place
-pub place_more : (init edges : List (ℕ × ℕ)) (item at : ℕ) (Goes : ℕ → Type 0) → HaveUpTo init edges item at Goes → Goes at → HaveUpTo init (edges ++ (item, at) ∷ []) item (at + 1) Goes
+pub place_more : (init edges : List (ℕ × ℕ)) (item at : ℕ) (Goes : ℕ → Type 0) → HaveUpTo init edges item at Goes → Goes at
+    → HaveUpTo init (edges ++ (item, at) ∷ []) item (at + 1) Goes
 place_more init edges item at Goes before goes k u = (λ h. to (Contains-append_cases edges ((item, at) ∷ []) (k, u) h), from)
   where
     to : Contains edges (k, u) ⊎ Contains {X = ℕ × ℕ} ((item, at) ∷ []) (k, u) → Contains init (k, u) ⊎ ((k ≡ item) × (u < at + 1) × Goes u)
@@ -42,12 +44,14 @@ place_more init edges item at Goes before goes k u = (λ h. to (Contains-append_
         by_place true e =
             let same : u ≡ at = eqb-true u at e in
             subst (λ (n : ℕ). Contains (edges ++ (item, at) ∷ []) (n, u)) (sym h.0)
-            (subst (λ (n : ℕ). Contains (edges ++ (item, at) ∷ []) (item, n)) (sym same) (Contains-append_right edges ((item, at) ∷ []) (item, at) (0, omega arith, refl)))
+            (subst (λ (n : ℕ). Contains (edges ++ (item, at) ∷ []) (item, n)) (sym same)
+            (Contains-append_right edges ((item, at) ∷ []) (item, at) (0, omega arith, refl)))
         by_place false e =
             let less : u < at = grind (arith, nat_tests, h.1) in Contains-append_left edges ((item, at) ∷ []) (k, u) ((before k u).1 (inr (h.0, less, h.2)))
 
 -- it doesn't go with it
-pub place_same : (init edges : List (ℕ × ℕ)) (item at : ℕ) (Goes : ℕ → Type 0) → HaveUpTo init edges item at Goes → (Goes at → ⊥) → HaveUpTo init edges item (at + 1) Goes
+pub place_same : (init edges : List (ℕ × ℕ)) (item at : ℕ) (Goes : ℕ → Type 0) → HaveUpTo init edges item at Goes → (Goes at → ⊥)
+    → HaveUpTo init edges item (at + 1) Goes
 place_same init edges item at Goes before apart k u = (λ h. one_more init item at Goes k u ((before k u).0 h), λ h. (before k u).1 (stronger h))
   where
     stronger : Contains init (k, u) ⊎ ((k ≡ item) × (u < at + 1) × Goes u) → Contains init (k, u) ⊎ ((k ≡ item) × (u < at) × Goes u)
@@ -57,22 +61,6 @@ place_same init edges item at Goes before apart k u = (λ h. one_more init item 
         by_place : (t : Bool) → eqb u at ≡ t → Contains init (k, u) ⊎ ((k ≡ item) × (u < at) × Goes u)
         by_place true e = absurd (apart (subst Goes (eqb-true u at e) h.2))
         by_place false e = let less : u < at = grind (arith, nat_tests, h.1) in inr (h.0, less, h.2)
-
--- the number is past every place that it goes with
-pub places_whole : (init edges : List (ℕ × ℕ)) (item at : ℕ) (Goes : ℕ → Type 0) → HaveUpTo init edges item at Goes → ((u : ℕ) → Goes u → u < at)
-    → (k u : ℕ) → Contains edges (k, u) ↔ (Contains init (k, u) ⊎ ((k ≡ item) × Goes u))
-places_whole init edges item at Goes before below k u = (λ h. to ((before k u).0 h), λ h. (before k u).1 (from h))
-  where
-    to : Contains init (k, u) ⊎ ((k ≡ item) × (u < at) × Goes u) → Contains init (k, u) ⊎ ((k ≡ item) × Goes u)
-    to (inl c) = inl c
-    to (inr h) = inr (h.0, h.2)
-
-    from : Contains init (k, u) ⊎ ((k ≡ item) × Goes u) → Contains init (k, u) ⊎ ((k ≡ item) × (u < at) × Goes u)
-    from (inl c) = inl c
-    from (inr h) = inr (h.0, below u h.1, h.1)
-
-pub no_items : (Goes : ℕ → ℕ → Type 0) → HaveItems [] 0 Goes
-no_items Goes k u = (λ h. absurd (omega (arith, h.1)), λ h. absurd (omega (arith, h.0)))
 
 -- with the edges of the next item
 pub item_more : (old new : List (ℕ × ℕ)) (at : ℕ) (Goes : ℕ → ℕ → Type 0) → HaveItems old at Goes
@@ -89,8 +77,3 @@ item_more old new at Goes before step k u = (λ h. to ((step k u).0 h), λ h. (s
         by_place : (t : Bool) → eqb k at ≡ t → Contains old (k, u) ⊎ ((k ≡ at) × Goes at u)
         by_place true e = let same : k ≡ at = eqb-true k at e in inr (same, subst (λ n. Goes n u) same h.1)
         by_place false e = let less : k < at = grind (arith, nat_tests, h.0) in inl ((before k u).1 (less, h.1))
-
--- the number is past every item that goes with a place
-pub items_whole : (edges : List (ℕ × ℕ)) (at : ℕ) (Goes : ℕ → ℕ → Type 0) → HaveItems edges at Goes → ((k u : ℕ) → Goes k u → k < at)
-    → (k u : ℕ) → Contains edges (k, u) ↔ Goes k u
-items_whole edges at Goes before below k u = (λ h. ((before k u).0 h).1, λ h. (before k u).1 (below k u h, h))

@@ -1,9 +1,10 @@
 -- A matching that agrees up to an item gives that item no closed place.
-use Rattle.std.proofs.Common.{ℕ, ◌≡◌, ◌<◌, ◌≤◌, ◌+◌, List, [], ◌∷◌, length, get_or, arith, zero, suc, sym, ◌∙◌, ap, refl, subst, Bool, true, false, cond, Option, Some, None, count_by, sum_by, unwrap_or, inl, inr}
+use Rattle.std.proofs.Common.{ℕ, ◌≡◌, ◌<◌, ◌≤◌, ◌+◌, List, [], ◌∷◌, length, get_or, arith, zero, suc, sym, ◌∙◌, ap, refl}
+use Rattle.std.proofs.Common.{subst, Bool, true, false, cond, Option, Some, None, count_by, sum_by, unwrap_or, inl, inr}
 use Rattle.std.specs.Prelude.{◌⊎◌, Contains}
 use Rattle.std.specs.List.{list_any}
 use Rattle.std.proofs.lemmas.Bool.{cases_order, false≢true}
-use Rattle.hall_match.specs.Holding.{is_at, given_at, holders}
+use Rattle.hall_match.specs.Holding.{is_at, given_at, holder_count}
 use Rattle.hall_match.specs.Matchings.{IsMatching, capacity_at, capacity_of, uses}
 use Rattle.hall_match.specs.Rows.{HaveEdges}
 use Rattle.hall_match.specs.Search.{Instance, IsSeen, IsClosed}
@@ -12,6 +13,11 @@ use Rattle.hall_match.proofs.CountLemmas.{sum-counts, sum-le, count-cons}
 use Rattle.hall_match.proofs.LawLemmas.{contained_any}
 use Rattle.hall_match.proofs.DeficiencyLemmas.{seen_at}
 use Rattle.hall_match.proofs.MarkLemmas.{seen_places, seen_has, seen_only, marked_rising, full_limit, closed_counts}
+
+one : (s t : Bool) → (s ≡ true → t ≡ true) → cond s 1 0 ≤ cond t 1 0
+one false t f = omega arith
+one true true f = omega arith
+one true false f = absurd (false≢true (f refl))
 
 -- where one test passes wherever the other does, and at one more place, it passes more often
 pub count_more : {X Y : Type 0} (p : X → Bool) (q : Y → Bool) (d : X) (e : Y) (xs : List X)
@@ -41,22 +47,12 @@ count_more p q d e (x ∷ xs) (y ∷ ys) zero long h l off on =
         let rest = count_same p q d e xs ys (omega (arith, long))
         (λ k m. h (suc k) (omega (arith, m))) in
         let f = one (p x) (q y) (h 0 (omega arith)) in omega (arith, a, b, rest, f)
-      where
-        one : (s t : Bool) → (s ≡ true → t ≡ true) → cond s 1 0 ≤ cond t 1 0
-        one false t f = omega arith
-        one true true f = omega arith
-        one true false f = absurd (false≢true (f refl))
 count_more p q d e (x ∷ xs) (y ∷ ys) (suc i) long h l off on =
     let a = count-cons p x xs in
     let b = count-cons q y ys in
     let rest = count_more p q d e xs ys i (omega (arith, long))
     (λ k m. h (suc k) (omega (arith, m))) (omega (arith, l)) off on in
     let f = one (p x) (q y) (h 0 (omega arith)) in omega (arith, a, b, rest, f)
-  where
-    one : (s t : Bool) → (s ≡ true → t ≡ true) → cond s 1 0 ≤ cond t 1 0
-    one false t f = omega arith
-    one true true f = omega arith
-    one true false f = absurd (false≢true (f refl))
 
 -- the places of a matching are used within their capacities, also together
 pub uses_fit : (left : ℕ) (capacities : List (Option ℕ)) (edges : List (ℕ × ℕ)) (list places : List ℕ)
@@ -93,7 +89,7 @@ excluded s left edges seen other rows whole inside free agrees closed m here =
   where
     limit : (place : ℕ) → IsSeen seen place
         → (most : ℕ) × (capacity_at s.capacities place ≡ Some most)
-    limit place e = let r = full_limit (capacity_at s.capacities place) (holders place s.given)
+    limit place e = let r = full_limit (capacity_at s.capacities place) (holder_count place s.given)
         (closed.full place e) in (r.0, r.1)
 
     kept : (k : ℕ) → k < length s.given → is_seen_at seen (given_at s.given k) ≡ true

@@ -1,12 +1,13 @@
 -- How a place that is given or taken changes the counts.
-use Rattle.std.proofs.Common.{ℕ, ◌≡◌, ◌<◌, ◌≤◌, ◌+◌, ◌-◌, List, length, get_or, set, arith, sym, ◌∙◌, ap, refl, cond, eqb, Option, Some, None, inl, inr}
+use Rattle.std.proofs.Common.{ℕ, ◌≡◌, ◌<◌, ◌≤◌, ◌+◌, ◌-◌, List, length, get_or, set, arith, sym, ◌∙◌, ap, refl, cond, eqb}
+use Rattle.std.proofs.Common.{Option, Some, None, inl, inr}
 use Rattle.std.specs.Prelude.{◌⊎◌}
 use Rattle.std.proofs.lemmas.Bool.{cases_eq, cases_lt, eq-eqb, ne_eqb, cond-true, cond-false}
 use Rattle.std.proofs.lemmas.List.{length-set, get_or-set_same, get_or-set_other, get_or_past, get_or_read}
 use Rattle.std.proofs.lemmas.List.Sums.{sum_by-set, count_by-le-length}
-use Rattle.hall_match.specs.Holding.{is_at, given_at, holders}
+use Rattle.hall_match.specs.Holding.{is_at, given_at, holder_count}
 
--- what one item adds to the holders of a place
+-- what one item adds to the holder_count of a place
 abbrev pub one_at : ℕ → Option ℕ → ℕ
 one_at place given = cond (is_at place given) 1 0
 
@@ -16,10 +17,10 @@ one_same place = cond-true {A = ℕ} (eqb place place) 1 0 (eq-eqb place place r
 pub one_other : (place other : ℕ) → (other ≡ place → ⊥) → one_at place (Some other) ≡ 0
 one_other place other n = cond-false {A = ℕ} (eqb other place) 1 0 (ne_eqb other place n)
 
-pub holders-set : (given : List (Option ℕ)) (item place : ℕ) (new : Option ℕ) → item < length given
-    → holders place (set given item new) + one_at place (given_at given item) ≡ holders place given
+pub holder_count-set : (given : List (Option ℕ)) (item place : ℕ) (new : Option ℕ) → item < length given
+    → holder_count place (set given item new) + one_at place (given_at given item) ≡ holder_count place given
     + one_at place new
-holders-set given item place new l = sum_by-set (λ g. cond (is_at place g) 1 0) given item new None
+holder_count-set given item place new l = sum_by-set (λ g. cond (is_at place g) 1 0) given item new None
     l
 
 -- an item that is given a place is one of the items
@@ -32,48 +33,48 @@ given_inside given item place e = either (cases_lt item (length given))
     either (inr l) = let past : given_at given item ≡ None = get_or_past given item None l in absurd
         (cc)
 
-pub holders-give : (given : List (Option ℕ)) (item place : ℕ) → item < length given
+pub holder_count-give : (given : List (Option ℕ)) (item place : ℕ) → item < length given
     → given_at given item ≡ None
-    → holders place (set given item (Some place)) ≡ holders place given + 1
-holders-give given item place l e =
-    let a = holders-set given item place (Some place) l in
+    → holder_count place (set given item (Some place)) ≡ holder_count place given + 1
+holder_count-give given item place l e =
+    let a = holder_count-set given item place (Some place) l in
     let b = ap (one_at place) e in
     let d = one_same place in omega (arith, a, b, d)
 
-pub holders-give_other : (given : List (Option ℕ)) (item place other : ℕ) → item < length given
+pub holder_count-give_other : (given : List (Option ℕ)) (item place other : ℕ) → item < length given
     → given_at given item ≡ None → (place ≡ other → ⊥)
-    → holders other (set given item (Some place)) ≡ holders other given
-holders-give_other given item place other l e n =
-    let a = holders-set given item other (Some place) l in
+    → holder_count other (set given item (Some place)) ≡ holder_count other given
+holder_count-give_other given item place other l e n =
+    let a = holder_count-set given item other (Some place) l in
     let b = ap (one_at other) e in
     let d = one_other other place n in omega (arith, a, b, d)
 
-pub holders-release : (given : List (Option ℕ)) (item place : ℕ) → given_at given item ≡ Some place
-    → holders place (set given item None) + 1 ≡ holders place given
-holders-release given item place e =
-    let a = holders-set given item place None (given_inside given item place e) in
+pub holder_count-release : (given : List (Option ℕ)) (item place : ℕ) → given_at given item ≡ Some place
+    → holder_count place (set given item None) + 1 ≡ holder_count place given
+holder_count-release given item place e =
+    let a = holder_count-set given item place None (given_inside given item place e) in
     let b = ap (one_at place) e in
     let d = one_same place in omega (arith, a, b, d)
 
-pub holders-release_other : (given : List (Option ℕ)) (item place other : ℕ)
+pub holder_count-release_other : (given : List (Option ℕ)) (item place other : ℕ)
     → given_at given item ≡ Some place → (place ≡ other → ⊥)
-    → holders other (set given item None) ≡ holders other given
-holders-release_other given item place other e n =
-    let a = holders-set given item other None (given_inside given item place e) in
+    → holder_count other (set given item None) ≡ holder_count other given
+holder_count-release_other given item place other e n =
+    let a = holder_count-set given item other None (given_inside given item place e) in
     let b = ap (one_at other) e in
     let d = one_other other place n in omega (arith, a, b, d)
 
--- where one item has no place, a place has fewer holders than there are items
-pub holders-below : (given : List (Option ℕ)) (item place : ℕ) → item < length given
-    → given_at given item ≡ None → holders place given < length given
-holders-below given item place l e =
-    let a = holders-give given item place l e in
+-- where one item has no place, a place has fewer holder_count than there are items
+pub holder_count-below : (given : List (Option ℕ)) (item place : ℕ) → item < length given
+    → given_at given item ≡ None → holder_count place given < length given
+holder_count-below given item place l e =
+    let a = holder_count-give given item place l e in
     let b = count_by-le-length (is_at place) (set given item (Some place)) in
     let d = length-set given item (Some place) in omega (arith, a, b, d)
 
 -- how often each place is used, as it is counted
 abbrev pub Counted : List (Option ℕ) → List ℕ → Type 0
-Counted given used = (place : ℕ) → place < length used → get_or used place 0 ≡ holders place given
+Counted given used = (place : ℕ) → place < length used → get_or used place 0 ≡ holder_count place given
 
 pub counted_give : (given : List (Option ℕ)) (used : List ℕ) (item place was : ℕ)
     → item < length given → given_at given item ≡ None → place < length used
@@ -81,17 +82,17 @@ pub counted_give : (given : List (Option ℕ)) (used : List ℕ) (item place was
     → Counted (set given item (Some place)) (set used place (was + 1))
 counted_give given used item place was l e inside reads counts q below = either (cases_eq q place)
   where
-    here : was ≡ holders place given
+    here : was ≡ holder_count place given
     here = get_or_read used place was inside reads 0 ∙ counts place inside
 
     either : (q ≡ place) ⊎ (q ≡ place → ⊥)
-        → get_or (set used place (was + 1)) q 0 ≡ holders q (set given item (Some place))
+        → get_or (set used place (was + 1)) q 0 ≡ holder_count q (set given item (Some place))
     either (inl s) = rw (s, get_or-set_same used place (was + 1) 0 inside, here)
-        (sym (holders-give given item place l e))
+        (sym (holder_count-give given item place l e))
     either (inr n) =
         let long = length-set used place (was + 1) in
         rw (get_or-set_other used place q (was + 1) 0 n) (counts q (omega (arith, long, below)) ∙
-        sym (holders-give_other given item place q l e (λ d. n (sym d))))
+        sym (holder_count-give_other given item place q l e (λ d. n (sym d))))
 
 pub counted_release : (given : List (Option ℕ)) (used : List ℕ) (item place was : ℕ)
     → given_at given item ≡ Some place → place < length used → was ≡ get_or used place was
@@ -99,17 +100,17 @@ pub counted_release : (given : List (Option ℕ)) (used : List ℕ) (item place 
     → Counted (set given item None) (set used place (was - 1))
 counted_release given used item place was e inside reads counts q below = either (cases_eq q place)
   where
-    here : was ≡ holders place given
+    here : was ≡ holder_count place given
     here = get_or_read used place was inside reads 0 ∙ counts place inside
 
     either : (q ≡ place) ⊎ (q ≡ place → ⊥)
-        → get_or (set used place (was - 1)) q 0 ≡ holders q (set given item None)
+        → get_or (set used place (was - 1)) q 0 ≡ holder_count q (set given item None)
     either (inl s) = rw (s, get_or-set_same used place (was - 1) 0 inside)
-        (let a = holders-release given item place e in let b = here in omega (arith, a, b))
+        (let a = holder_count-release given item place e in let b = here in omega (arith, a, b))
     either (inr n) =
         let long = length-set used place (was - 1) in
         rw (get_or-set_other used place q (was - 1) 0 n) (counts q (omega (arith, long, below)) ∙
-        sym (holders-release_other given item place q e (λ d. n (sym d))))
+        sym (holder_count-release_other given item place q e (λ d. n (sym d))))
 
 -- every place that an item is given is one of the places
 abbrev pub Inside : List (Option ℕ) → ℕ → Type 0

@@ -1,9 +1,10 @@
 -- The least matching, item by item.
-use Rattle.std.proofs.Common.{ℕ, ◌≡◌, ◌<◌, ◌+◌, List, [], ◌∷◌, length, get_or, take, arith, suc, sym, ◌∙◌, ap, refl, cond, Option, Some, None, inl, inr}
+use Rattle.std.proofs.Common.{ℕ, ◌≡◌, ◌<◌, ◌+◌, List, [], ◌∷◌, length, get_or, take, arith, suc, sym, ◌∙◌, ap, refl, cond, Option}
+use Rattle.std.proofs.Common.{Some, None, inl, inr}
 use Rattle.std.specs.Prelude.{◌⊎◌}
 use Rattle.std.proofs.lemmas.Bool.{cases_eq, cases_order}
 use Rattle.std.proofs.lemmas.List.{length-take-le, get_or-take, ext_get_or}
-use Rattle.hall_match.specs.Holding.{is_at, given_at, holders, IsPartialMatching}
+use Rattle.hall_match.specs.Holding.{is_at, given_at, holder_count, IsPartialMatching}
 use Rattle.hall_match.specs.Matchings.{IsMatching, IsBefore, IsLeast, uses}
 use Rattle.hall_match.specs.Rows.{HaveEdges}
 use Rattle.hall_match.specs.Search.{Instance}
@@ -55,7 +56,7 @@ up_to_next s left edges given new other rows whole inside free stood settled m (
 -- a list of the places that items are given has each place as often
 pub uses_are : (given : List (Option ℕ)) (list : List ℕ) (place : ℕ) → length given ≡ length list
     → ((k : ℕ) → k < length given → given_at given k ≡ Some (get_or list k 0))
-    → uses place list ≡ holders place given
+    → uses place list ≡ holder_count place given
 uses_are [] [] place e h = refl
 uses_are [] (x ∷ xs) place e h = absurd (omega (arith, e))
 uses_are (g ∷ gs) [] place e h = absurd (omega (arith, e))

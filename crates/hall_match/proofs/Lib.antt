@@ -14,3 +14,5 @@ pub mod SettlingLemmas
 pub mod LeastLemmas
 pub mod OneLemmas
 pub mod EdgeLemmas
+pub mod JoinedLemmas
+pub mod FirstLemmas

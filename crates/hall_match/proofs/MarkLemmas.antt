@@ -1,11 +1,12 @@
 -- The seen places as a list, and what their capacities are against the items that are given them.
-use Rattle.std.proofs.Common.{ℕ, ◌≡◌, ◌<◌, ◌≤◌, ◌+◌, List, [], ◌∷◌, length, get_or, arith, zero, suc, sym, ap, refl, subst, Bool, true, false, cond, eqb, Option, Some, None, count_by, unwrap_or, inl, inr}
+use Rattle.std.proofs.Common.{ℕ, ◌≡◌, ◌<◌, ◌≤◌, ◌+◌, List, [], ◌∷◌, length, get_or, arith, zero, suc, sym, ap, refl, subst, Bool}
+use Rattle.std.proofs.Common.{true, false, cond, eqb, Option, Some, None, count_by, unwrap_or, inl, inr}
 use Rattle.std.specs.Prelude.{◌⊎◌, Contains}
 use Rattle.std.specs.List.{list_any}
 use Rattle.std.specs.List.Sorted.{IsStrictlyIncreasing}
 use Rattle.std.proofs.lemmas.Bool.{eqb-true, ltb-false, or_cases, false≢true}
 use Rattle.std.proofs.lemmas.List.Sums.{sum_by-le-sum_by}
-use Rattle.hall_match.specs.Holding.{is_at, holders, has_more}
+use Rattle.hall_match.specs.Holding.{is_at, holder_count, has_more}
 use Rattle.hall_match.specs.Matchings.{capacity_at, capacity_of}
 use Rattle.hall_match.specs.Search.{Instance, IsSeen, IsClosed}
 use Rattle.hall_match.specs.Blocking.{is_seen_at}
@@ -111,7 +112,7 @@ any_seen seen given t = let c = found (seen_places seen) given t in subst
         either f (inl e) = (p, ap Some (eqb-true x p e), contains_here p ps)
         either f (inr e) = let r = f e in (r.0, r.1, contains_more p ps r.0 r.2)
 
--- a full place has a capacity, and as many holders
+-- a full place has a capacity, and as many holder_count
 pub full_limit : (capacity : Option ℕ) (used : ℕ) → has_more capacity used ≡ false
     → (most : ℕ) × (capacity ≡ Some most) × (unwrap_or capacity 0 ≤ used)
 full_limit None used e = absurd (false≢true (sym e))
@@ -121,7 +122,7 @@ full_limit (Some most) used e = (most, refl, ltb-false used most e)
 pub closed_counts : (s : Instance) (seen : List Bool) → IsClosed s seen
     → capacity_of s.capacities (seen_places seen) ≤ count_by (is_seen_at seen) s.given
 closed_counts s seen h =
-    let a = sum-le (λ p. unwrap_or (capacity_at s.capacities p) 0) (λ p. holders p s.given)
+    let a = sum-le (λ p. unwrap_or (capacity_at s.capacities p) 0) (λ p. holder_count p s.given)
     (seen_places seen) (λ k p l e. fits p (seen_only seen p (k, l, e))) in
     let b = sum-counts {X = Option ℕ} (λ x. x) 0 (seen_places seen) s.given
     (marked_rising 0 seen) in
@@ -130,8 +131,8 @@ closed_counts s seen h =
     (list_any (λ p. is_at p x) (seen_places seen)) (is_seen_at seen x) (any_seen seen x)) in
     omega (arith, a, b, d)
   where
-    fits : (p : ℕ) → IsSeen seen p → unwrap_or (capacity_at s.capacities p) 0 ≤ holders p s.given
-    fits p e = (full_limit (capacity_at s.capacities p) (holders p s.given) (h.full p e)).2
+    fits : (p : ℕ) → IsSeen seen p → unwrap_or (capacity_at s.capacities p) 0 ≤ holder_count p s.given
+    fits p e = (full_limit (capacity_at s.capacities p) (holder_count p s.given) (h.full p e)).2
 
     one : (a b : Bool) → (a ≡ true → b ≡ true) → cond a 1 0 ≤ cond b 1 0
     one false b f = omega arith

@@ -1,17 +1,18 @@
 -- Items that are moved along an augmenting path, from its end to where it begins.
-use Rattle.std.proofs.Common.{ℕ, ◌≡◌, ◌<◌, ◌≤◌, ◌+◌, List, length, set, arith, sym, ◌∙◌, ap, refl, subst, true, Option, Some, None, inl, inr}
+use Rattle.std.proofs.Common.{ℕ, ◌≡◌, ◌<◌, ◌≤◌, ◌+◌, List, length, set, arith, sym, ◌∙◌, ap, refl, subst, true, Option, Some}
+use Rattle.std.proofs.Common.{None, inl, inr}
 use Rattle.std.specs.Prelude.{◌⊎◌, slice_get, Contains}
 use Rattle.std.proofs.lemmas.Bool.{cases_eq, ltb-true, lt-ltb}
 use Rattle.std.proofs.lemmas.Option.{slice_get_within}
 use Rattle.std.proofs.lemmas.List.{length-set, get_or-set_same, get_or-set_other}
 use Rattle.hall_match.specs.declared.search.Reached.{Reached}
 use Rattle.hall_match.specs.declared.search.Move.{Move}
-use Rattle.hall_match.specs.Holding.{given_at, holders, has_more, has_room, IsPartialMatching}
+use Rattle.hall_match.specs.Holding.{given_at, holder_count, has_more, has_room, IsPartialMatching}
 use Rattle.hall_match.specs.Matchings.{capacity_at}
 use Rattle.hall_match.specs.Rows.{row_at, AreInside}
 use Rattle.hall_match.specs.Search.{Instance, IsAlternatingTree, IsStep, IsLeastPath}
 use Rattle.hall_match.specs.Settling.{IsGiven, Settles}
-use Rattle.hall_match.proofs.HoldingLemmas.{one_at, one_same, one_other, holders-set, given_inside}
+use Rattle.hall_match.proofs.HoldingLemmas.{one_at, one_same, one_other, holder_count-set, given_inside}
 
 -- the next item at a place with room keeps within its capacity
 pub more_fits : (capacity : Option ℕ) (used most : ℕ) → has_more capacity used ≡ true
@@ -47,16 +48,16 @@ module _ (capacities : List (Option ℕ)) (rows : List (List ℕ)) (given : List
           None n) ∙ e)
 
       within : (p most : ℕ) → capacity_at capacities p ≡ Some most → (place ≡ p) ⊎ (place ≡ p → ⊥)
-          → holders p (set given item (Some place)) ≤ most
+          → holder_count p (set given item (Some place)) ≤ most
       within p most e (inl s) =
-          let a = holders-set given item p (Some place) inside in
+          let a = holder_count-set given item p (Some place) inside in
           let b = ap (λ q. one_at q (Some place)) (sym s) ∙ one_same place in
           let r : has_room capacities given p ≡ true = ap (has_room capacities given) (sym s) ∙
           room in
-          let l = more_fits (capacity_at capacities p) (holders p given) most r e in omega
+          let l = more_fits (capacity_at capacities p) (holder_count p given) most r e in omega
           (arith, a, b, l)
       within p most e (inr n) =
-          let a = holders-set given item p (Some place) inside in
+          let a = holder_count-set given item p (Some place) inside in
           let b = one_other p place n in
           let l = h.within p most e in omega (arith, a, b, l)
 
@@ -64,12 +65,12 @@ module _ (capacities : List (Option ℕ)) (rows : List (List ℕ)) (given : List
   pub room_left : (from : ℕ) → IsPartialMatching capacities rows given → given_at given item ≡ Some from
       → (from ≡ place → ⊥) → has_room capacities (set given item (Some place)) from ≡ true
   room_left from h e n = fits_more (capacity_at capacities from)
-      (holders from (set given item (Some place))) fits
+      (holder_count from (set given item (Some place))) fits
     where
       fits : (most : ℕ) → capacity_at capacities from ≡ Some most
-          → holders from (set given item (Some place)) < most
+          → holder_count from (set given item (Some place)) < most
       fits most is =
-          let a = holders-set given item from (Some place) inside in
+          let a = holder_count-set given item from (Some place) inside in
           let b = ap (one_at from) e ∙ one_same from in
           let d = one_other from place (λ s. n (sym s)) in
           let l = h.within from most is in omega (arith, a, b, d, l)

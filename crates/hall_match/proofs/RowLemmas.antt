@@ -1,13 +1,15 @@
 -- Rows that are filled edge by edge and then sorted.
-use Rattle.std.proofs.Common.{ℕ, ◌≡◌, ◌<◌, ◌≤◌, ◌+◌, List, [], ◌∷◌, ◌++◌, length, get_or, set, take, replicate, Vec, arith, sym, ◌∙◌, ap, subst, inl, inr}
+use Rattle.std.proofs.Common.{ℕ, ◌≡◌, ◌<◌, ◌≤◌, ◌+◌, List, [], ◌∷◌, ◌++◌, length, get_or, set, take, replicate, Vec, arith}
+use Rattle.std.proofs.Common.{sym, ◌∙◌, ap, subst, inl, inr}
 use Rattle.std.specs.Prelude.{◌⊎◌, ◌↔◌, Contains}
 use Rattle.std.specs.List.Sorted.{IsPermutation, IsNonDecreasing}
 use Rattle.std.specs.declared.alloc.Global.{Global}
 use Rattle.std.proofs.lemmas.Bool.{cases_eq, cases_lt}
-use Rattle.std.proofs.lemmas.List.{get_or-set_same, get_or-set_other, get_or-map, get_or-replicate, get_or_past, length-replicate, length-map, map-set, take_more}
+use Rattle.std.proofs.lemmas.List.{get_or-set_same, get_or-set_other, get_or-map, get_or-replicate, get_or_past, length-replicate, length-map, map-set}
+use Rattle.std.proofs.lemmas.List.{take_more}
 use Rattle.std.proofs.lemmas.List.Elements.{Contains-append_left, Contains-push, Contains-push_cases}
 use Rattle.std.proofs.lemmas.List.Sorted.{Contains-permutation, IsPermutation-sym}
-use Rattle.hall_match.specs.Rows.{lists, row_at, HaveEdges, HaveSame, AreRising}
+use Rattle.hall_match.specs.Rows.{lists, row_at, HaveEdges, HaveSame, RowsRise}
 
 pub row-read : (rows : List (Vec ℕ Global)) (i : ℕ) (d : Vec ℕ Global) → i < length rows
     → row_at (lists rows) i ≡ (get_or rows i d).items
@@ -108,7 +110,7 @@ rising_more rows i row inside up h item l = either (cases_eq item i)
     either (inr n) = rw (get_or-set_other rows i item row [] n) (h item (omega (arith, n)))
 
 pub all_rising : (rows : List (List ℕ))
-    → ((item : ℕ) → item < length rows → IsNonDecreasing (row_at rows item)) → AreRising rows
+    → ((item : ℕ) → item < length rows → IsNonDecreasing (row_at rows item)) → RowsRise rows
 all_rising rows h item = either (cases_lt item (length rows))
   where
     either : (item < length rows) ⊎ (length rows ≤ item) → IsNonDecreasing (row_at rows item)

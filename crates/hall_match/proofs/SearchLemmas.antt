@@ -1,5 +1,6 @@
 -- The steps of a search: a place that is seen for the first time, and one that is gone through.
-use Rattle.std.proofs.Common.{ℕ, ◌≡◌, ◌<◌, ◌≤◌, ◌+◌, ◌-◌, List, [], ◌∷◌, ◌++◌, length, get_or, set, arith, zero, suc, sym, ◌∙◌, ap, refl, subst, Bool, true, false, not, cond, Option, Some, None, count_by, inl, inr}
+use Rattle.std.proofs.Common.{ℕ, ◌≡◌, ◌<◌, ◌≤◌, ◌+◌, ◌-◌, List, [], ◌∷◌, ◌++◌, length, get_or, set, arith, zero, suc, sym}
+use Rattle.std.proofs.Common.{◌∙◌, ap, refl, subst, Bool, true, false, not, cond, Option, Some, None, count_by, inl, inr}
 use Rattle.std.specs.Prelude.{◌⊎◌, slice_get, Contains}
 use Rattle.std.specs.List.Sorted.{IsNonDecreasing}
 use Rattle.std.proofs.lemmas.Bool.{cases_eq, cases_lt, false≢true}
@@ -11,7 +12,8 @@ use Rattle.hall_match.specs.declared.search.Reached.{Reached}
 use Rattle.hall_match.specs.declared.search.Move.{Move}
 use Rattle.hall_match.specs.Holding.{has_room}
 use Rattle.hall_match.specs.Rows.{row_at, AreInside}
-use Rattle.hall_match.specs.Search.{Instance, IsSeen, IsRowSeen, IsReachable, IsShutFrom, IsClosed, IsStep, IsAlternatingTree, IsWaiting, IsSearch, IsFound, IsFoundFrom, IsLeastPath, GoesOn, IsUserAt}
+use Rattle.hall_match.specs.Search.{Instance, IsSeen, IsRowSeen, IsReachable, IsShutFrom, IsClosed, IsStep, IsAlternatingTree, IsWaiting, IsSearch, IsFound}
+use Rattle.hall_match.specs.Search.{IsFoundFrom, IsLeastPath, GoesOn, IsUserAt}
 
 -- a list with one more at its end
 pub get-push_old : {X : Type 0} (xs : List X) (y : X) (k : ℕ) (x : X) → slice_get xs k ≡ Some x
@@ -333,6 +335,12 @@ module _ (s : Instance) (seen : List Bool) (place : ℕ) where
 pub near : (row items : List ℕ) (k : ℕ) → items ≡ row → k < length items
     → Contains row (get_or items k 0)
 near row items k e l = subst (λ r. Contains r (get_or items k 0)) e (Contains-get_or items k 0 l)
+
+-- it is inside where the places of all rows are
+pub near_inside : (rows : List (List ℕ)) (count item : ℕ) (items : List ℕ) (k : ℕ) → AreInside rows count → items ≡ row_at rows item
+    → k < length items
+    → get_or items k 0 < count
+near_inside rows count item items k inside e l = inside item (get_or items k 0) (near (row_at rows item) items k e l)
 
 pub row_seen : (seen : List Bool) (row items : List ℕ) → items ≡ row
     → ((k : ℕ) → k < length items → IsSeen seen (get_or items k 0)) → IsRowSeen seen row

@@ -1,16 +1,17 @@
 -- What is left of an partial_matching once an item is settled.
-use Rattle.std.proofs.Common.{ℕ, ◌≡◌, ◌<◌, ◌≤◌, List, length, set, arith, sym, ◌∙◌, ap, refl, subst, Bool, true, false, Option, Some, None, inl, inr}
+use Rattle.std.proofs.Common.{ℕ, ◌≡◌, ◌<◌, ◌≤◌, List, length, set, arith, sym, ◌∙◌, ap, refl, subst, Bool, true, false, Option, Some}
+use Rattle.std.proofs.Common.{None, inl, inr}
 use Rattle.std.specs.Prelude.{◌⊎◌, Contains, MatchOption, IsSome}
 use Rattle.std.specs.Option.{is_some}
 use Rattle.std.proofs.lemmas.Bool.{cases_eq, cases_lt, false≢true}
 use Rattle.std.proofs.lemmas.List.{length-set, get_or-set_same, get_or-set_other, get_or_past, set_past}
 use Rattle.std.proofs.lemmas.List.Elements.{All-contains}
-use Rattle.hall_match.specs.Holding.{given_at, holders, has_room, IsPartialMatching}
-use Rattle.hall_match.specs.Matchings.{AreEdges, capacity_at}
+use Rattle.hall_match.specs.Holding.{given_at, holder_count, has_room, IsPartialMatching}
+use Rattle.hall_match.specs.Matchings.{ArePairsWithin, capacity_at}
 use Rattle.hall_match.specs.Rows.{row_at, HaveEdges, AreInside}
 use Rattle.hall_match.specs.Search.{Instance, IsClosedRow}
 use Rattle.hall_match.specs.Settling.{IsGiven, Settles}
-use Rattle.hall_match.proofs.HoldingLemmas.{holders-release, holders-set}
+use Rattle.hall_match.proofs.HoldingLemmas.{holder_count-release, holder_count-set}
 use Rattle.hall_match.proofs.MoveLemmas.{fits_more}
 
 -- the items from the settled one on are given places, where the later ones were
@@ -50,24 +51,24 @@ module _ (capacities : List (Option ℕ)) (rows : List (List ℕ)) (given : List
       neighbours i p e (inr n) = held.neighbours i p (sym (release_other i n) ∙ e)
 
       within : (p most : ℕ) → capacity_at capacities p ≡ Some most
-          → (item < length given) ⊎ (length given ≤ item) → holders p (set given item None) ≤ most
+          → (item < length given) ⊎ (length given ≤ item) → holder_count p (set given item None) ≤ most
       within p most e (inl l) =
-          let a = holders-set given item p None l in
+          let a = holder_count-set given item p None l in
           let b = held.within p most e in omega (arith, a, b)
       within p most e (inr l) =
-          let a = ap (holders p) (set_past given item None l) in
+          let a = ap (holder_count p) (set_past given item None l) in
           let b = held.within p most e in omega (arith, a, b)
 
   -- the place that it had has room then
   pub release_room : (place : ℕ) → given_at given item ≡ Some place
       → has_room capacities (set given item None) place ≡ true
   release_room place e = fits_more (capacity_at capacities place)
-      (holders place (set given item None)) fits
+      (holder_count place (set given item None)) fits
     where
       fits : (most : ℕ) → capacity_at capacities place ≡ Some most
-          → holders place (set given item None) < most
+          → holder_count place (set given item None) < most
       fits most is =
-          let a = holders-release given item place e in
+          let a = holder_count-release given item place e in
           let b = held.within place most is in omega (arith, a, b)
 
 -- so its row isn't closed
@@ -96,7 +97,7 @@ is_something {X} answer x e = subst (λ (o : Option X). IsSome o) (sym e) refl
 
 -- the rows of edges between known ends have known places
 pub rows_inside : (left : ℕ) (capacities : List (Option ℕ)) (edges : List (ℕ × ℕ))
-    (rows : List (List ℕ)) → AreEdges left capacities edges → HaveEdges rows edges
+    (rows : List (List ℕ)) → ArePairsWithin left capacities edges → HaveEdges rows edges
     → AreInside rows (length capacities)
 rows_inside left capacities edges rows ends have item place c =
     let both = All-contains (λ (edge : ℕ × ℕ). (edge.0 < left) × (edge.1 < length capacities)) edges

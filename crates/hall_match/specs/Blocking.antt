@@ -1,5 +1,6 @@
 -- The deficient set that a failed search leaves: the item that finds no place, and the users of what is closed.
-use Rattle.std.specs.Prelude.{ℕ, ◌≡◌, ◌+◌, ◌<◌, ◌↔◌, ◌==◌, ◌||◌, Bool, true, false, List, length, Option, Some, None, slice_index_or, count_by, Contains, All}
+use Rattle.std.specs.Prelude.{ℕ, ◌≡◌, ◌+◌, ◌<◌, ◌↔◌, ◌==◌, ◌||◌, Bool, true, false, List, length, Option, Some, None}
+use Rattle.std.specs.Prelude.{slice_index_or, count_by, Contains, All}
 use Rattle.std.specs.List.Sorted.{IsStrictlyIncreasing}
 use Rattle.hall_match.specs.Holding.{given_at}
 

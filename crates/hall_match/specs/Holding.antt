@@ -13,8 +13,8 @@ abbrev pub given_at : List (Option ℕ) → ℕ → Option ℕ
 given_at given item = slice_index_or given item None
 
 -- how many items are given the place
-abbrev pub holders : ℕ → List (Option ℕ) → ℕ
-holders place given = count_by (is_at place) given
+abbrev pub holder_count : ℕ → List (Option ℕ) → ℕ
+holder_count place given = count_by (is_at place) given
 
 -- whether a place of this capacity may be given to one more item than it is
 abbrev pub has_more : Option ℕ → ℕ → Bool
@@ -23,7 +23,7 @@ has_more (Some most) used = nat_lt used most
 
 -- whether the place may be given to one more item
 abbrev pub has_room : List (Option ℕ) → List (Option ℕ) → ℕ → Bool
-has_room capacities given place = has_more (capacity_at capacities place) (holders place given)
+has_room capacities given place = has_more (capacity_at capacities place) (holder_count place given)
 
 -- a partial matching: items are given neighbours, and no limited place more often than its capacity
 pub record IsPartialMatching (capacities : List (Option ℕ)) (rows : List (List ℕ))
@@ -31,4 +31,4 @@ pub record IsPartialMatching (capacities : List (Option ℕ)) (rows : List (List
   pub neighbours : (item place : ℕ) → given_at given item ≡ Some place
       → Contains (row_at rows item) place
   pub within : (place most : ℕ) → capacity_at capacities place ≡ Some most
-      → holders place given ≤ most
+      → holder_count place given ≤ most

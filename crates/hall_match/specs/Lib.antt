@@ -2,6 +2,8 @@ pub mod Blocking
 pub mod Chains
 pub mod Holding
 pub mod Matchings
+pub mod Joined
+pub mod Firsts
 pub mod Outcome
 pub mod Rows
 pub mod Search

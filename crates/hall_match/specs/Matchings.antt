@@ -1,10 +1,11 @@
 -- Matchings with capacities: items are given neighbouring places, none more often than its capacity.
-use Rattle.std.specs.Prelude.{ℕ, ◌≡◌, ◌<◌, ◌≤◌, ◌↔◌, ◌==◌, ◌⊎◌, List, length, take, slice_index, slice_index_or, Option, Some, None, unwrap_or, count_by, sum_by, Contains, All}
+use Rattle.std.specs.Prelude.{ℕ, ◌≡◌, ◌<◌, ◌≤◌, ◌↔◌, ◌==◌, ◌⊎◌, List, length, take, slice_index, slice_index_or, Option}
+use Rattle.std.specs.Prelude.{Some, None, unwrap_or, count_by, sum_by, Contains, All}
 use Rattle.std.specs.List.Sorted.{IsStrictlyIncreasing}
 
 -- each edge leads from an item below the number to a place that has a capacity
-abbrev pub AreEdges : ℕ → List (Option ℕ) → List (ℕ × ℕ) → Type 0
-AreEdges left capacities edges = All (λ edge. (edge.0 < left) × (edge.1 < length capacities)) edges
+abbrev pub ArePairsWithin : ℕ → List (Option ℕ) → List (ℕ × ℕ) → Type 0
+ArePairsWithin left capacities edges = All (λ edge. (edge.0 < left) × (edge.1 < length capacities)) edges
 
 -- how many items the place may be given to; none is no limit
 abbrev pub capacity_at : List (Option ℕ) → ℕ → Option ℕ

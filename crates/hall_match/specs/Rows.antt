@@ -17,8 +17,8 @@ HaveEdges rows edges = (item place : ℕ)
     → Contains (row_at rows item) place ↔ Contains edges (item, place)
 
 -- each row rises
-abbrev pub AreRising : List (List ℕ) → Type 0
-AreRising rows = (item : ℕ) → IsNonDecreasing (row_at rows item)
+abbrev pub RowsRise : List (List ℕ) → Type 0
+RowsRise rows = (item : ℕ) → IsNonDecreasing (row_at rows item)
 
 -- the rows have the same places
 abbrev pub HaveSame : List (List ℕ) → List (List ℕ) → Type 0

@@ -1,5 +1,6 @@
 -- The search for an augmenting path: which places it has seen, and by which alternating paths.
-use Rattle.std.specs.Prelude.{ℕ, ◌≡◌, ◌+◌, ◌-◌, ◌<◌, ◌≤◌, ◌⊎◌, Bool, true, false, not, List, length, Option, Some, None, slice_index_or, slice_get, count_by, Contains}
+use Rattle.std.specs.Prelude.{ℕ, ◌≡◌, ◌+◌, ◌-◌, ◌<◌, ◌≤◌, ◌⊎◌, Bool, true, false, not, List, length, Option, Some, None}
+use Rattle.std.specs.Prelude.{slice_index_or, slice_get, count_by, Contains}
 use Rattle.std.specs.Prelude.{Vec}
 use Rattle.std.specs.declared.alloc.Global.{Global}
 use Rattle.hall_match.specs.declared.search.Reached.{Reached}

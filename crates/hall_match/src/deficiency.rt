@@ -4,7 +4,8 @@ ghost use Rattle.std.specs.Prelude.{ℕ, ◌≡◌, ◌<◌, ◌^◌, length, So
 ghost use Rattle.hall_match.specs.Holding.{given_at};
 ghost use Rattle.hall_match.specs.Blocking.{is_blocked, AreBlocked};
 
-use std::alloc::{AllocError, Global};
+use crate::NoMemory;
+use std::alloc::Global;
 
 /// The item that finds no place, and the items that are given a seen one.
 pub fn blocked_items(
@@ -12,7 +13,7 @@ pub fn blocked_items(
     given: &[Option<u32>],
     seen: &[bool],
     item: u32,
-) -> Result<Vec<u32>, AllocError>
+) -> Result<Vec<u32>, NoMemory>
     requires few { length given.now < 2 ^ 32 }
     requires item { item < length given.now }
     requires free { given_at given.now item ≡ None }

@@ -2,6 +2,9 @@
 #![tactic(auto)]
 
 mod deficiency;
+mod edges;
+mod firsts;
+mod joined;
 mod laws;
 mod outcome;
 mod partial_matching;
@@ -10,6 +13,8 @@ mod search;
 mod settling;
 mod users;
 
+pub use edges::Edges;
+pub use joined::{least_transversal, match_by, small};
 pub use laws::{deficient_law, least_law};
 pub use outcome::{Matching, match_all};
 pub use std::alloc::AllocError as NoMemory;

@@ -1,12 +1,13 @@
 //! The least full matching, or items that break Hall's condition.
 
 ghost use Rattle.std.specs.Prelude.{ℕ, ◌≡◌, ◌<◌, length, List, Some, None, slice_index, MatchOption, IfOk, OnOk};
-ghost use Rattle.hall_match.specs.Matchings.{AreEdges, IsMatching, IsLeast, IsDeficient};
+ghost use Rattle.hall_match.specs.Matchings.{ArePairsWithin, IsMatching, IsLeast, IsDeficient};
 ghost use Rattle.hall_match.specs.Holding.{given_at, IsPartialMatching};
-ghost use Rattle.hall_match.specs.Rows.{lists, HaveEdges, AreInside, AreRising};
+ghost use Rattle.hall_match.specs.Rows.{lists, HaveEdges, AreInside, RowsRise};
 ghost use Rattle.hall_match.specs.Settling.{IsGiven, IsUpTo};
 ghost use Rattle.hall_match.specs.Outcome.{IfMatched, IfDeficient};
 
+use crate::NoMemory;
 use crate::deficiency::blocked_items;
 use crate::partial_matching::PartialMatching;
 use crate::rows::rows_of;
@@ -34,7 +35,7 @@ fn settle_all(
     requires whole { length held.old.given.items ≡ left }
     requires places { length held.old.used.items ≡ length capacities.now }
     requires inside { AreInside (lists rows.now) (length capacities.now) }
-    requires rising { AreRising (lists rows.now) }
+    requires rising { RowsRise (lists rows.now) }
     requires none { (item : ℕ) → given_at held.old.given.items item ≡ None }
     requires held { IsPartialMatching capacities.now (lists rows.now) held.old.given.items }
     ensures whole { OnOk result (length held.new.given.items ≡ left) }
@@ -66,7 +67,7 @@ fn settle_least(
     requires whole { length held.old.given.items ≡ left }
     requires places { length held.old.used.items ≡ length capacities.now }
     requires inside { AreInside (lists rows.now) (length capacities.now) }
-    requires rising { AreRising (lists rows.now) }
+    requires rising { RowsRise (lists rows.now) }
     requires held { IsPartialMatching capacities.now (lists rows.now) held.old.given.items }
     requires given { (item : ℕ) → item < left → IsGiven held.old.given.items item }
     ensures whole { OnOk result (length held.new.given.items ≡ left) }
@@ -109,8 +110,8 @@ pub fn match_all(
     left: u32,
     capacities: &[Option<u32>],
     edges: &[(u32, u32)],
-) -> Result<Matching, AllocError>
-    requires { AreEdges left capacities.now edges.now }
+) -> Result<Matching, NoMemory>
+    requires { ArePairsWithin left capacities.now edges.now }
     ensures matched { IfOk result (λ answer. IfMatched answer (IsLeast left capacities.now edges.now)) }
     ensures deficient { IfOk result (λ answer.
         IfDeficient answer (IsDeficient left capacities.now edges.now)) }

@@ -2,9 +2,10 @@
 
 ghost use Rattle.std.specs.Prelude.{ℕ, ◌≡◌, ◌<◌, ◌^◌, length, slice_index, slice_set, Some, None, IfOk};
 ghost use Rattle.std.specs.Prelude.{replicate};
-ghost use Rattle.hall_match.specs.Holding.{given_at, holders, has_room};
+ghost use Rattle.hall_match.specs.Holding.{given_at, holder_count, has_room};
 
-use std::alloc::{AllocError, Global};
+use crate::NoMemory;
+use std::alloc::Global;
 
 /// The place that each item is given, and how many items each place is given to.
 #[derive(Drop)]
@@ -15,12 +16,12 @@ pub struct PartialMatching {
     pub ghost inside: { (item place : ℕ) → given_at given.items item ≡ Some place →
         place < length used.items },
     pub ghost counted: { (place : ℕ) → place < length used.items →
-        slice_index used.items place ≡ holders place given.items },
+        slice_index used.items place ≡ holder_count place given.items },
 }
 
 impl PartialMatching {
     /// No item is given a place yet.
-    pub fn new(alloc: Global, left: u32, places: usize) -> Result<Self, AllocError>
+    pub fn new(alloc: Global, left: u32, places: usize) -> Result<Self, NoMemory>
         ensures given { IfOk result (λ held. held.given.items ≡ replicate left None) }
         ensures places { IfOk result (λ held. length held.used.items ≡ places) }
     {

@@ -1,16 +1,17 @@
 //! The neighbours of each item.
 
 ghost use Rattle.std.specs.Prelude.{◌≡◌, ◌<◌, [], length, All, IfOk};
-ghost use Rattle.hall_match.specs.Rows.{lists, row_at, HaveEdges, HaveSame, AreRising};
+ghost use Rattle.hall_match.specs.Rows.{lists, row_at, HaveEdges, HaveSame, RowsRise};
 
+use crate::NoMemory;
 use std::alloc::{AllocError, Global};
 
 /// For each item its row: the places to which it has an edge, rising.
-pub fn rows_of(alloc: Global, left: u32, edges: &[(u32, u32)]) -> Result<Vec<Vec<u32>>, AllocError>
+pub fn rows_of(alloc: Global, left: u32, edges: &[(u32, u32)]) -> Result<Vec<Vec<u32>>, NoMemory>
     requires { All (λ edge. edge.0 < left) edges.now }
     ensures whole { IfOk result (λ rows. length rows.items ≡ left) }
     ensures edges { IfOk result (λ rows. HaveEdges (lists rows.items) edges.now) }
-    ensures rising { IfOk result (λ rows. AreRising (lists rows.items)) }
+    ensures rising { IfOk result (λ rows. RowsRise (lists rows.items)) }
 {
     let rows = empty_rows(alloc, left)?;
     let rows = filled_rows(rows, edges)?;
@@ -43,7 +44,7 @@ fn filled_rows(mut rows: Vec<Vec<u32>>, edges: &[(u32, u32)]) -> Result<Vec<Vec<
 fn sorted_rows(mut rows: Vec<Vec<u32>>) -> Result<Vec<Vec<u32>>, AllocError>
     ensures whole { IfOk result (λ sorted. length sorted.items ≡ length rows.items) }
     ensures same { IfOk result (λ sorted. HaveSame (lists rows.items) (lists sorted.items)) }
-    ensures rising { IfOk result (λ sorted. AreRising (lists sorted.items)) }
+    ensures rising { IfOk result (λ sorted. RowsRise (lists sorted.items)) }
 {
     for i in 0..rows.len() {
         rows[i].sort()?;

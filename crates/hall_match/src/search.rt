@@ -1,10 +1,12 @@
 //! The search for an augmenting path: an alternating path to a place with room, whose moves are of
 //! later items.
 
-ghost use Rattle.std.specs.Prelude.{◌≡◌, ◌+◌, ◌<◌, true, false, MatchBool, length, slice_set, slice_index_or, ◌∷◌, ◌++◌, [], Contains, IfOk, OnOk};
-ghost use Rattle.hall_match.specs.Rows.{lists, row_at, AreInside, AreRising};
+ghost use Rattle.std.specs.Prelude.{◌≡◌, ◌+◌, ◌<◌, true, false, MatchBool, length, slice_set, slice_index_or, ◌∷◌, ◌++◌, []};
+ghost use Rattle.std.specs.Prelude.{Contains, IfOk, OnOk};
+ghost use Rattle.hall_match.specs.Rows.{lists, row_at, AreInside, RowsRise};
 ghost use Rattle.hall_match.specs.Search.{instance, IsRowSeen, IsClosed, IsSearch, IsFound, GoesOn, IsUserAt, IsReady, IsFoundFrom, IsClosedWith, IsOutcome};
 
+use crate::NoMemory;
 use crate::partial_matching::PartialMatching;
 use crate::rows::row_of;
 use crate::users::Users;
@@ -174,9 +176,9 @@ pub fn find_path(
     held: &PartialMatching,
     users: &Users,
     item: u32,
-) -> Result<Found, AllocError>
+) -> Result<Found, NoMemory>
     requires item { item < length rows.now }
-    requires rising { AreRising (lists rows.now) }
+    requires rising { RowsRise (lists rows.now) }
     requires ready { let s = instance capacities.now rows.now held.now.given.items item in
         IsReady s held.now.used.items users.now.last.items users.now.before.items }
     ensures { let s = instance capacities.now rows.now held.now.given.items item in

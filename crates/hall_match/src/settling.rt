@@ -2,14 +2,15 @@
 
 ghost use Rattle.std.specs.Prelude.{◌≡◌, ◌<◌, length, None, MatchOption, IfOk, OnOk};
 ghost use Rattle.hall_match.specs.Holding.{given_at, IsPartialMatching};
-ghost use Rattle.hall_match.specs.Rows.{lists, AreInside, AreRising};
+ghost use Rattle.hall_match.specs.Rows.{lists, AreInside, RowsRise};
 ghost use Rattle.hall_match.specs.Search.{instance, IsClosedRow};
 ghost use Rattle.hall_match.specs.Settling.{Settles};
 
+use crate::NoMemory;
 use crate::partial_matching::PartialMatching;
 use crate::search::{Found, find_path};
 use crate::users::users_from;
-use std::alloc::{AllocError, Global};
+use std::alloc::Global;
 
 /// Gives the item the least place that it can have while later items are moved.
 /// Where it can have none, nothing changes, and the answer is the places that are closed.
@@ -19,12 +20,12 @@ pub fn settle(
     rows: &[Vec<u32>],
     held: &mut PartialMatching,
     item: u32,
-) -> Result<Option<Vec<bool>>, AllocError>
+) -> Result<Option<Vec<bool>>, NoMemory>
     requires item { item < length rows.now }
     requires whole { length held.old.given.items ≡ length rows.now }
     requires places { length held.old.used.items ≡ length capacities.now }
     requires inside { AreInside (lists rows.now) (length capacities.now) }
-    requires rising { AreRising (lists rows.now) }
+    requires rising { RowsRise (lists rows.now) }
     requires held { IsPartialMatching capacities.now (lists rows.now) held.old.given.items }
     requires free { given_at held.old.given.items item ≡ None }
     ensures places { OnOk result (length held.new.used.items ≡ length held.old.used.items) }

@@ -1,7 +1,7 @@
 //! Known answers, and all small cases against every list in turn.
 
-ghost use Rattle.std.specs.Prelude.{◌≡◌, true};
-ghost use Rattle.hall_match.specs.Matchings.{AreEdges};
+ghost use Rattle.std.specs.Prelude.{◌≡◌, true, Contains};
+ghost use Rattle.hall_match.specs.Matchings.{ArePairsWithin};
 
 use super::*;
 use std::alloc::{AllocError, Global};
@@ -114,7 +114,7 @@ const LISTS: [[u32; 3]; 8] = [
 ];
 
 fn are_edges(left: u32, capacities: &[Option<u32>], edges: &[(u32, u32)]) -> bool
-    ensures { result ≡ true → AreEdges left capacities.now edges.now }
+    ensures { result ≡ true → ArePairsWithin left capacities.now edges.now }
 {
     for (item, place) in edges {
         if *item >= left || *place as usize >= capacities.len() {
@@ -140,6 +140,50 @@ fn known_answers(rt: HostRuntime) -> Result<(), Fail> {
         );
         let answer = match_all(rt.alloc(), case.left, case.capacities, case.edges)?;
         assert!(rt; is_answer(&answer, case.matched, case.list), "at row {row}");
+    }
+    Ok(())
+}
+
+/// The edges of a list.
+#[derive(Clone, Copy)]
+struct Listed<'a> {
+    edges: &'a [(u32, u32)],
+}
+
+impl<'a> Edges for Listed<'a> {
+    ghost joins = { λ s item place. Contains s.edges.now (item, place) };
+
+    fn has(&self, item: u32, place: u32) -> bool {
+        self.edges.contains(&(item, place))
+    }
+}
+
+/// How many items and places, the edges, and the least list of different places.
+type DistinctRow = (usize, usize, &'static [(u32, u32)], Option<&'static [u32]>);
+
+const DISTINCT: [DistinctRow; 5] = [
+    (0, 0, &[], Some(&[])),
+    (2, 2, &[(0, 0), (0, 1), (1, 0)], Some(&[1, 0])),
+    (2, 3, &[(0, 2), (0, 1), (1, 2), (1, 1)], Some(&[1, 2])),
+    (2, 1, &[(0, 0), (1, 0)], None),
+    // A place past the number is none.
+    (1, 1, &[(0, 1)], None),
+];
+
+#[test]
+fn edges_that_a_test_tells(rt: HostRuntime) -> Result<(), Fail> {
+    for (row, case) in CASES.iter().enumerate() {
+        let edges = Listed { edges: case.edges };
+        let answer = match_by(rt.alloc(), case.left as usize, case.capacities, &edges)?;
+        assert!(rt; is_answer(&answer, case.matched, case.list), "at row {row}");
+    }
+    for (row, (items, places, edges, list)) in DISTINCT.iter().enumerate() {
+        let found = least_transversal(rt.alloc(), *items, *places, &Listed { edges: *edges })?;
+        assert_eq!(&rt;
+            found.as_ref().map(|places| places.as_slice()),
+            *list,
+            "at row {row}"
+        );
     }
     Ok(())
 }

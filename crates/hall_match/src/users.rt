@@ -4,7 +4,8 @@ ghost use Rattle.std.specs.Prelude.{ℕ, ◌≡◌, ◌<◌, ◌≤◌, ◌^◌,
 ghost use Rattle.hall_match.specs.Holding.{given_at};
 ghost use Rattle.hall_match.specs.Chains.{AreChains};
 
-use std::alloc::{AllocError, Global};
+use crate::NoMemory;
+use std::alloc::Global;
 
 /// The items from some item on that are given each place: the last one, and before each item the
 /// next one with the same place.
@@ -20,7 +21,7 @@ pub fn users_from(
     given: &[Option<u32>],
     places: usize,
     low: usize,
-) -> Result<Users, AllocError>
+) -> Result<Users, NoMemory>
     requires few { length given.now < 2 ^ 32 }
     requires low { low ≤ length given.now }
     requires inside { (item place : ℕ) → given_at given.now item ≡ Some place → place < places }

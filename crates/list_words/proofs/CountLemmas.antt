@@ -1,5 +1,6 @@
 -- Items counted by a test; an injective map leads to at least as many of a kind.
-use Rattle.std.proofs.Common.{ℕ, ◌≡◌, ◌<◌, ◌≤◌, ◌+◌, Bool, true, false, cond, List, [], ◌∷◌, Some, length, refl, arith, zero, suc, ◌∙◌, ap}
+use Rattle.std.proofs.Common.{ℕ, ◌≡◌, ◌<◌, ◌≤◌, ◌+◌, Bool, true, false, cond, List, [], ◌∷◌, Some, length, refl, arith, zero, suc}
+use Rattle.std.proofs.Common.{◌∙◌, ap}
 use Rattle.std.specs.Prelude.{slice_get, pred}
 use Rattle.list_words.specs.Lists.{Each}
 use Rattle.list_words.specs.Embeds.{Embeds}
@@ -40,7 +41,8 @@ shift_apart (suc j) zero (suc l) n m e = absurd (omega (arith, e))
 shift_apart (suc j) (suc k) zero n m e = absurd (omega (arith, e))
 shift_apart (suc j) (suc k) (suc l) n m e = ap suc (shift_apart j k l (λ d. n (ap suc d)) (λ d. m (ap suc d)) (omega (arith, e)))
 
-pub count_cut : {A : Type 0} (q : A → Bool) (xs : List A) (j : ℕ) (x : A) → slice_get xs j ≡ Some x → count q xs ≡ cond (q x) 1 0 + count q (cut j xs)
+pub count_cut : {A : Type 0} (q : A → Bool) (xs : List A) (j : ℕ) (x : A) → slice_get xs j ≡ Some x
+    → count q xs ≡ cond (q x) 1 0 + count q (cut j xs)
 count_cut q [] j x e = cc
 count_cut q (y ∷ ys) zero x e = let same : y ≡ x = cc in ap (λ v. cond (q v) 1 0 + count q ys) same
 count_cut q (y ∷ ys) (suc j) x e = let r = count_cut q ys j x e in omega (arith, r)
@@ -48,14 +50,16 @@ count_cut q (y ∷ ys) (suc j) x e = let r = count_cut q ys j x e in omega (arit
 pub embeds_rest : {A B : Type 0} (R : A → B → Type 0) (x : A) (xs : List A) (ys : List B) (f : Embeds R (x ∷ xs) ys) → Embeds R xs (cut (f.to 0) ys)
 embeds_rest R x xs ys f = record {
   to = λ i. shift (f.to 0) (f.to (suc i));
-  apart = λ i j li lj e. let r = f.apart (suc i) (suc j) (omega arith) (omega arith) (shift_apart (f.to 0) (f.to (suc i)) (f.to (suc j)) (moved i li) (moved j lj) e) in omega (arith, r);
+  apart = λ i j li lj e. let r = f.apart (suc i) (suc j) (omega arith) (omega arith)
+      (shift_apart (f.to 0) (f.to (suc i)) (f.to (suc j)) (moved i li) (moved j lj) e) in omega (arith, r);
   each = λ i y is. let one = f.each (suc i) y is in (one.0, get_cut ys (f.to 0) (f.to (suc i)) (moved i (get_below xs i y is)) ∙ one.1, one.2);
 }
   where
     moved : (i : ℕ) → i < length xs → f.to (suc i) ≡ f.to 0 → ⊥
     moved i l e = let r : suc i ≡ 0 = f.apart (suc i) 0 (omega arith) (omega arith) e in omega (arith, r)
 
-pub counted : {A B : Type 0} (R : A → B → Type 0) (p : A → Bool) (q : B → Bool) → ((x : A) (y : B) → R x y → p x ≡ true → q y ≡ true) → (xs : List A) (ys : List B) → Embeds R xs ys
+pub counted : {A B : Type 0} (R : A → B → Type 0) (p : A → Bool) (q : B → Bool) → ((x : A) (y : B) → R x y → p x ≡ true → q y ≡ true)
+    → (xs : List A) (ys : List B) → Embeds R xs ys
     → count p xs ≤ count q ys
 counted R p q h [] ys f = omega arith
 counted R p q h (x ∷ xs) ys f =

@@ -46,7 +46,8 @@ each_by P (x ∷ xs) h = (h x (inl refl), each_by P xs (λ y i. h y (inr i)))
 pub each_own : {A : Type 0} (P : A → Type 0) (xs : List A) → Each P xs → Each (λ x. Some_of (λ (y : A). y ≡ x) xs × P x) xs
 each_own {A} P xs p = go xs xs (λ x i. i) p
   where
-    go : (some all : List A) → ((x : A) → Some_of (λ (y : A). y ≡ x) some → Some_of (λ (y : A). y ≡ x) all) → Each P some → Each (λ x. Some_of (λ (y : A). y ≡ x) all × P x) some
+    go : (some all : List A) → ((x : A) → Some_of (λ (y : A). y ≡ x) some → Some_of (λ (y : A). y ≡ x) all) → Each P some
+        → Each (λ x. Some_of (λ (y : A). y ≡ x) all × P x) some
     go [] all f p = tt
     go (x ∷ xs) all f p = ((f x (inl refl), p.0), go xs all (λ y i. f y (inr i)) p.1)
 

@@ -1,5 +1,6 @@
 -- Injective maps: composed, extended and read.
-use Rattle.std.proofs.Common.{ℕ, ◌≡◌, ◌<◌, Bool, true, false, eqb, List, [], ◌∷◌, Some, length, refl, arith, zero, suc, sym, ◌∙◌, ap, subst, inl, inr}
+use Rattle.std.proofs.Common.{ℕ, ◌≡◌, ◌<◌, Bool, true, false, eqb, List, [], ◌∷◌, Some, length, refl, arith, zero, suc, sym, ◌∙◌, ap}
+use Rattle.std.proofs.Common.{subst, inl, inr}
 use Rattle.std.specs.Prelude.{◌⊎◌, slice_get}
 use Rattle.std.proofs.lemmas.Bool.{eqb-true, eq-eqb}
 use Rattle.list_words.specs.Embeds.{Embeds}
@@ -39,7 +40,8 @@ find_place to p (suc n) = by_last (find_place to p n) (eqb (to n) p) refl
 pub embeds_itself : {A : Type 0} (R : A → A → Type 0) → ((x : A) → R x x) → (xs : List A) → Embeds R xs xs
 embeds_itself R own xs = record { to = λ i. i; apart = λ i j l m e. e; each = λ i x is. (x, is, own x) }
 
-pub embeds_front : {A B : Type 0} (R : A → B → Type 0) (x : A) (y : B) (xs : List A) (ys : List B) → R x y → Embeds R xs ys → Embeds R (x ∷ xs) (y ∷ ys)
+pub embeds_front : {A B : Type 0} (R : A → B → Type 0) (x : A) (y : B) (xs : List A) (ys : List B) → R x y → Embeds R xs ys
+    → Embeds R (x ∷ xs) (y ∷ ys)
 embeds_front {A} {B} R x y xs ys r f = record { to = to; apart = apart; each = each }
   where
     to : ℕ → ℕ

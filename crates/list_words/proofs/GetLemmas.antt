@@ -1,5 +1,6 @@
 -- The items at the places of a list, also of one that was changed, cut or extended.
-use Rattle.std.proofs.Common.{ℕ, ◌≡◌, ◌<◌, ◌≤◌, ◌+◌, Bool, true, false, cond, eqb, List, [], ◌∷◌, ◌++◌, map, None, Some, length, get_or, take, refl, arith, zero, suc, sym, ◌∙◌, ap, subst, inl, inr}
+use Rattle.std.proofs.Common.{ℕ, ◌≡◌, ◌<◌, ◌≤◌, ◌+◌, Bool, true, false, cond, eqb, List, [], ◌∷◌, ◌++◌, map, None, Some}
+use Rattle.std.proofs.Common.{length, get_or, take, refl, arith, zero, suc, sym, ◌∙◌, ap, subst, inl, inr}
 use Rattle.std.specs.Prelude.{◌⊎◌, slice_get, slice_set, Contains}
 use Rattle.std.proofs.lemmas.Bool.{eqb-true}
 use Rattle.std.proofs.lemmas.Bool.Decides.{nat_tests}
@@ -64,7 +65,8 @@ take_one_more (y ∷ ys) zero x e = let same : y ≡ x = cc in rw same refl
 take_one_more (y ∷ ys) (suc i) x e = let n : suc i + 1 ≡ suc (i + 1) = omega arith in rw n (ap (λ t. y ∷ t) (take_one_more ys i x e))
 
 -- what holds of the items before a place, and of the one there
-pub below_more : {A : Type 0} (P : A → Type 0) (xs : List A) (i : ℕ) (x : A) → ((k : ℕ) (y : A) → k < i → slice_get xs k ≡ Some y → P y) → slice_get xs i ≡ Some x → P x
+pub below_more : {A : Type 0} (P : A → Type 0) (xs : List A) (i : ℕ) (x : A) → ((k : ℕ) (y : A) → k < i → slice_get xs k ≡ Some y → P y)
+    → slice_get xs i ≡ Some x → P x
     → (k : ℕ) (y : A) → k < i + 1 → slice_get xs k ≡ Some y → P y
 below_more P xs i x before at here k y l e = by_place (eqb k i) refl
   where
@@ -88,7 +90,8 @@ pub length_more : {A : Type 0} (xs : List A) (y : A) → length (xs ++ y ∷ [])
 length_more [] y = refl
 length_more (x ∷ xs) y = let r = length_more xs y in omega (arith, r)
 
-pub get_last_cases : {A : Type 0} (xs : List A) (x y : A) (k : ℕ) → slice_get (xs ++ x ∷ []) k ≡ Some y → (slice_get xs k ≡ Some y) ⊎ ((k ≡ length xs) × (x ≡ y))
+pub get_last_cases : {A : Type 0} (xs : List A) (x y : A) (k : ℕ) → slice_get (xs ++ x ∷ []) k ≡ Some y → (slice_get xs k ≡ Some y)
+    ⊎ ((k ≡ length xs) × (x ≡ y))
 get_last_cases [] x y zero e = inr (refl, cc)
 get_last_cases [] x y (suc k) e = cc
 get_last_cases (z ∷ zs) x y zero e = inl e

@@ -28,7 +28,8 @@ from_places R xs ys places p = record {
 pub told_places : {A B : Type 0} (R : A → B → Type 0) (xs : List A) (ys : List B) → (f : Embeds R xs ys) → ArePlaces R xs ys (told f.to (length xs))
 told_places {A} {B} R xs ys f = record {
   long = length-told f.to (length xs);
-  apart = λ i j l m e. let li = within i l in let lj = within j m in f.apart i j li lj (sym (get-told f.to (length xs) i li) ∙ e ∙ get-told f.to (length xs) j lj);
+  apart = λ i j l m e. let li = within i l in let lj = within j m in
+      f.apart i j li lj (sym (get-told f.to (length xs) i li) ∙ e ∙ get-told f.to (length xs) j lj);
   each = λ i x is. let one = f.each i x is in (one.0, ap (slice_get ys) (get-told f.to (length xs) i (get_below xs i x is)) ∙ one.1, one.2);
 }
   where

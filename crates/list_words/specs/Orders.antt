@@ -9,6 +9,11 @@ list_before before [] (y ∷ ys) = true
 list_before before (x ∷ xs) [] = false
 list_before before (x ∷ xs) (y ∷ ys) = before x y || (not (before y x) && list_before before xs ys)
 
+-- nothing is before itself, and what is before a second that is before a third is before the third
+pub record IsStrictOrder {A : Type 0} (before : A → A → Bool) : Type 0 where
+  pub never : (x : A) → ¬ (before x x ≡ true)
+  pub through : (x y z : A) → before x y ≡ true → before y z ≡ true → before x z ≡ true
+
 -- nothing is before itself, what is before a second that is before a third is before the third, and
 -- of two different ones one is before the other
 pub record IsTotalOrder {A : Type 0} (before : A → A → Bool) : Type 0 where

@@ -30,10 +30,12 @@ kind_step_one Strong holder rules users old admin target role new other a b =
     weak_steps_one holder rules users old admin target (falling holder rules.order b.set role) new other
     (subst (λ s. WeakSteps holder rules users old admin target (falling holder rules.order s role) new) same a.steps) b.steps
 
-pub step_one : (rules : Rules) (old : List (List ℕ)) (act : Act) (new other : List (List ℕ)) → Step rules old act new → Step rules old act other → new ≡ other
+pub step_one : (rules : Rules) (old : List (List ℕ)) (act : Act) (new other : List (List ℕ)) → Step rules old act new → Step rules old act other
+    → new ≡ other
 step_one rules old act new other a b = kind_step_one act.kind user rules old old act.admin act.target act.role new other a b
 
-run_more : (rules : Rules) (old mid new : List (List ℕ)) (acts : List Act) (act : Act) → Run rules old acts mid → Step rules mid act new → Run rules old (acts ++ act ∷ []) new
+run_more : (rules : Rules) (old mid new : List (List ℕ)) (acts : List Act) (act : Act) → Run rules old acts mid → Step rules mid act new
+    → Run rules old (acts ++ act ∷ []) new
 run_more rules old mid new [] act run step = let P : List (List ℕ) → Type 0 = λ p. Step rules p act new in (new, subst P run step, refl)
 run_more rules old mid new (first ∷ acts) act run step = (run.0, run.1, run_more rules run.0 mid new acts act run.2 step)
 
@@ -44,7 +46,8 @@ run_taken rules old mid new acts place act at run step =
     subst (λ t. Run rules old t new) (sym (take_one_more acts place act at)) (run_more rules old mid new (take place acts) act run step)
 
 -- where an act after a run has no step, the acts are no run
-pub no_run : (rules : Rules) (old mid : List (List ℕ)) (acts : List Act) (place : ℕ) (act : Act) → slice_get acts place ≡ Some act → Run rules old (take place acts) mid
+pub no_run : (rules : Rules) (old mid : List (List ℕ)) (acts : List Act) (place : ℕ) (act : Act) → slice_get acts place ≡ Some act
+    → Run rules old (take place acts) mid
     → ((new : List (List ℕ)) → Step rules mid act new → ⊥) → (end : List (List ℕ)) → Run rules old acts end → ⊥
 no_run rules old mid [] place act at run none end whole = cc
 no_run rules old mid (first ∷ acts) zero act at run none end whole =

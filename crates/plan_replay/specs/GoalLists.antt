@@ -1,6 +1,9 @@
 -- Lists of the users who meet a goal.
-use Rattle.std.specs.Prelude.{ℕ, ◌≡◌, ◌⊎◌, ◌↔◌, List, Contains, slice_get, Some}
-use Rattle.arbac_policy.specs.Truth.{Term, user, Satisfies}
+use Rattle.std.specs.Prelude.{ℕ, ◌≡◌, ◌⊎◌, List, [], ◌∷◌}
+use Rattle.std.specs.Coded.{×_prop, Unit-prop, le_prop}
+use Rattle.list_words.specs.Lists.{Each}
+use Rattle.arbac_policy.specs.declared.cond.Cond.{Cond}
+use Rattle.arbac_policy.specs.Truth.{Term, any, has, lacks, both, either, term_of, user, IsKnown, Satisfies}
 use Rattle.list_words.specs.Places.{ArePlaces}
 use Rattle.hall_match.specs.Matchings.{IsBefore}
 
@@ -13,10 +16,18 @@ pub record AreLeast (edges : List (ℕ × ℕ)) (goal : List Term) (sets : List 
   pub meet : MeetGoal edges goal sets users
   pub least : (other : List ℕ) → MeetGoal edges goal sets other → (other ≡ users) ⊎ IsBefore users other
 
--- the user at the place meets the condition
-abbrev pub IsMetBy : List (ℕ × ℕ) → Term → List (List ℕ) → ℕ → Type 0
-IsMetBy edges cond sets place = (set : List ℕ) × (slice_get sets place ≡ Some set) × Satisfies user edges set cond
+-- each condition's roles are below the count
+abbrev pub AreKnown : ℕ → List Cond → Type 0
+AreKnown count goal = Each (λ cond. IsKnown count (term_of cond)) goal
 
--- the pairs of a condition's place and the place of a user who meets it
-abbrev pub ArePairs : List (ℕ × ℕ) → List Term → List (List ℕ) → List (ℕ × ℕ) → Type 0
-ArePairs edges goal sets pairs = (k place : ℕ) → Contains pairs (k, place) ↔ ((cond : Term) × (slice_get goal k ≡ Some cond) × IsMetBy edges cond sets place)
+IsKnown-prop : (count : ℕ) (t : Term) → IsProp (IsKnown count t)
+IsKnown-prop count any = Unit-prop
+IsKnown-prop count (has role) = le_prop
+IsKnown-prop count (lacks role) = le_prop
+IsKnown-prop count (both t u) = ×_prop (IsKnown-prop count t) (IsKnown-prop count u)
+IsKnown-prop count (either t u) = ×_prop (IsKnown-prop count t) (IsKnown-prop count u)
+
+-- that can hold in one way alone
+pub AreKnown-prop : (count : ℕ) (goal : List Cond) → IsProp (AreKnown count goal)
+AreKnown-prop count [] = Unit-prop
+AreKnown-prop count (cond ∷ goal) = ×_prop (IsKnown-prop count (term_of cond)) (AreKnown-prop count goal)

@@ -16,10 +16,12 @@ pub record StopsAt (rules : Rules) (start : List (List ℕ)) (acts : List Act) (
   pub run : Run rules start (take place acts) state
   pub denied : Denies rules state act part
 
+-- what holds of the sets at the end
 abbrev pub IfEnded : Replayed → (List (List ℕ) → Type 0) → Type 0
 IfEnded (Ended users) P = P users.items
 IfEnded (Stopped place part) P = Unit {0}
 
+-- what holds of the place and the part
 abbrev pub IfStopped : Replayed → (ℕ → Part → Type 0) → Type 0
 IfStopped (Ended users) P = Unit {0}
 IfStopped (Stopped place part) P = P place part

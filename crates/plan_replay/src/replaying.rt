@@ -4,9 +4,10 @@ ghost use Rattle.std.specs.Prelude.{ℕ, ◌≡◌, ◌<◌, ◌^◌, List, leng
 ghost use Rattle.arbac_policy.specs.Steps.{Run};
 ghost use Rattle.plan_replay.specs.Replays.{StopsAt, IfEnded, IfStopped};
 
+use crate::NoMemory;
 use arbac_policy::{Act, Part, Policy};
 use role_order::RoleSet;
-use std::alloc::{AllocError, Global};
+use std::alloc::Global;
 use ura_core::{Verdict, decide};
 
 /// Where a list of acts ends.
@@ -24,7 +25,7 @@ pub fn replay(
     policy: &Policy,
     start: &[RoleSet],
     acts: &[Act],
-) -> Result<Replayed, AllocError>
+) -> Result<Replayed, NoMemory>
     requires { length acts.now < 2 ^ 32 }
     ensures ended { IfOk result (λ replayed. IfEnded replayed (Run policy.now start.now acts.now)) }
     ensures users { IfOk result (λ replayed. IfEnded replayed (λ sets. length sets ≡ length start.now)) }

@@ -1,5 +1,6 @@
 -- A text that stands for a run has no fault, and stands for no other run.
-use Rattle.std.proofs.Common.{ℕ, ◌≡◌, ◌≤◌, ◌+◌, ◌⊎◌, inl, inr, false, List, [], ◌∷◌, ◌++◌, append_assoc, append-nil, length, refl, arith, sym, ◌∙◌, ap, subst, Some, map}
+use Rattle.std.proofs.Common.{ℕ, ◌≡◌, ◌≤◌, ◌+◌, ◌⊎◌, inl, inr, false, List, [], ◌∷◌, ◌++◌, append_assoc, append-nil, length}
+use Rattle.std.proofs.Common.{refl, arith, sym, ◌∙◌, ap, subst, Some, map}
 use Rattle.std.specs.Prelude.{codes}
 use Rattle.std.proofs.lemmas.Bool.{false≢true}
 use Rattle.role_order.specs.declared.order.OrderError.{OrderError}
@@ -17,34 +18,44 @@ use Rattle.cond_text.specs.Reading.{IsRefused as IsRefusedCond}
 use Rattle.policy_text.specs.declared.run_error.RunError.{RunError}
 use Rattle.policy_text.specs.declared.run_error.RunError.TheVariants.{BadLine, UnknownRole, Order, Cond, TooMany, Unended, Memory}
 use Rattle.policy_text.specs.Lines.{split, is_order_line}
-use Rattle.policy_text.specs.LineForms.{LineForm, NamedRange, a_role, an_edge, an_assign, a_revoke, a_user, an_act, a_goal, IsWellFormed, tells_order, spell}
+use Rattle.cond_text.specs.Ranges.{NamedRange}
+use Rattle.policy_text.specs.LineForms.{LineForm, a_role, an_edge, an_assign, a_revoke, a_user, an_act, a_goal, IsWellFormed, tells_order, spell}
 use Rattle.policy_text.specs.Spelling.{form_of}
-use Rattle.policy_text.specs.Runs.{RunValue, nothing, MayStand, HasRoom, Names, NameEach, ReadsAs, Extends, Adds, AddAll, behind_edges, IsReadTo, StandsFor}
-use Rattle.policy_text.specs.Faults.{IsUnknown, HasUnknown, HasCondFault, IsLineFault, EndsOrder, IsFaultInside, IsFaultAhead, IsFaultBehind, IsOrderFault, IsUnended, IsFirstFault}
-use Rattle.policy_text.proofs.OrderLemmas.{order_clash}
+use Rattle.cond_text.specs.Named.{Names, NameEach, ReadsAs, IsUnknown}
+use Rattle.policy_text.specs.Runs.{RunValue, nothing, MayStand, HasRoom, Extends, Adds, AddAll, behind_edges, IsReadTo, StandsFor}
+use Rattle.policy_text.specs.Faults.{HasUnknown, HasCondFault, IsLineFault, EndsOrder, IsFaultInside, IsFaultAhead, IsFaultBehind, IsOrderFault, IsUnended}
+use Rattle.policy_text.specs.Faults.{IsFirstFault}
+use Rattle.cond_text.proofs.OrderLemmas.{order_clash}
 use Rattle.policy_text.proofs.FormLemmas.{form_found}
 use Rattle.policy_text.proofs.StepLemmas.{order_line_is, no_end, begun}
 use Rattle.policy_text.proofs.SoleLemmas.{extends_one}
 
 -- conditions
 
-pub cond_clash_at : (count : ℕ) (before : List Word) (x : Placed) (rest : List Placed) (f : CondError) → IsFaultAt count before x rest f → IsFine count before x rest → ⊥
+pub cond_clash_at : (count : ℕ) (before : List Word) (x : Placed) (rest : List Placed) (f : CondError) → IsFaultAt count before x rest f
+    → IsFine count before x rest → ⊥
 cond_clash_at count before x rest (conditions.Unexpected place) h k = h.1 k.expected
 cond_clash_at count before x rest (conditions.TooDeep place) h k = k.shallow h.2
 cond_clash_at count before x rest (conditions.UnknownRole place) h k = k.known h.3
 cond_clash_at count before x rest conditions.Memory h k = h
 
-cond_clash : (count size : ℕ) (ws : List Placed) (before : List Word) (f : CondError) (t : Term) → IsFirstCondFault count size before ws f → AreFine count before ws → Stands (before ++ plain ws) t → ⊥
+cond_clash : (count size : ℕ) (ws : List Placed) (before : List Word) (f : CondError) (t : Term) → IsFirstCondFault count size before ws f
+    → AreFine count before ws → Stands (before ++ plain ws) t → ⊥
 cond_clash count size [] before f t h k st = h.1 t (subst (λ (ws : List Word). Stands ws t) (append-nil before) st)
 cond_clash count size (x ∷ xs) before f t h k st = elim h [
   | inl a ↦ cond_clash_at count before x xs f a k.0
-  | inr a ↦ cond_clash count size xs (before ++ (x.word ∷ [])) f t a.1 k.1 (subst (λ (ws : List Word). Stands ws t) (sym (append_assoc before (x.word ∷ []) (plain xs))) st)
+  | inr a ↦ cond_clash count size xs (before ++ (x.word ∷ [])) f t a.1 k.1
+      (subst (λ (ws : List Word). Stands ws t) (sym (append_assoc before (x.word ∷ []) (plain xs))) st)
 ]
 
-reads_clash : (names : List (List ℕ)) (text : List ℕ) (term : Term) (error : CondError) → ReadsAs names text term → IsRefusedCond names text error → (error ≡ conditions.Memory → ⊥) → ⊥
-reads_clash names text term (conditions.Unexpected place) s r m = cond_clash (length names) (length text) (placed_words names text) [] (conditions.Unexpected place) term r s.1 s.0
-reads_clash names text term (conditions.UnknownRole place) s r m = cond_clash (length names) (length text) (placed_words names text) [] (conditions.UnknownRole place) term r s.1 s.0
-reads_clash names text term (conditions.TooDeep place) s r m = cond_clash (length names) (length text) (placed_words names text) [] (conditions.TooDeep place) term r s.1 s.0
+reads_clash : (names : List (List ℕ)) (text : List ℕ) (term : Term) (error : CondError) → ReadsAs names text term → IsRefusedCond names text error
+    → (error ≡ conditions.Memory → ⊥) → ⊥
+reads_clash names text term (conditions.Unexpected place) s r m =
+    cond_clash (length names) (length text) (placed_words names text) [] (conditions.Unexpected place) term r s.1 s.0
+reads_clash names text term (conditions.UnknownRole place) s r m =
+    cond_clash (length names) (length text) (placed_words names text) [] (conditions.UnknownRole place) term r s.1 s.0
+reads_clash names text term (conditions.TooDeep place) s r m =
+    cond_clash (length names) (length text) (placed_words names text) [] (conditions.TooDeep place) term r s.1 s.0
 reads_clash names text term conditions.Memory s r m = m refl
 
 -- lines
@@ -52,7 +63,8 @@ reads_clash names text term conditions.Memory s r m = m refl
 named_clash : (names : List (List ℕ)) (name : List ℕ) (role : ℕ) → Names names name role → IsUnknown names name → ⊥
 named_clash names name role h k = absurd (cc)
 
-range_clash : (names : List (List ℕ)) (written : NamedRange) → (low high : ℕ) → Names names written.low low → Names names written.high high → IsUnknown names written.low ⊎ IsUnknown names written.high → ⊥
+range_clash : (names : List (List ℕ)) (written : NamedRange) → (low high : ℕ) → Names names written.low low → Names names written.high high
+    → IsUnknown names written.low ⊎ IsUnknown names written.high → ⊥
 range_clash names written low high h k (inl u) = named_clash names written.low low h u
 range_clash names written low high h k (inr u) = named_clash names written.high high k u
 
@@ -89,7 +101,8 @@ spell_one a b h k e = let s : Some a ≡ Some b = sym (form_found a h) ∙ ap fo
 pub no_last : (form : LineForm) → IsWellFormed form → spell form ≡ codes "end" → ⊥
 no_last form h e = no_end (spell form) form (form_found form h) e
 
-pub adds_clash : (run next : RunValue) (line : List ℕ) (form : LineForm) (number : ℕ) (fault : RunError) → IsWellFormed form → spell form ≡ line → Adds run form next → (fault ≡ Memory → ⊥) → IsLineFault run line number fault → ⊥
+pub adds_clash : (run next : RunValue) (line : List ℕ) (form : LineForm) (number : ℕ) (fault : RunError) → IsWellFormed form → spell form ≡ line
+    → Adds run form next → (fault ≡ Memory → ⊥) → IsLineFault run line number fault → ⊥
 adds_clash run next line form number (BadLine at) h s a m f = f.1 form (record { formed = h; spelled = s; place = a.place })
 adds_clash run next line form number (TooMany at) h s a m f =
     f.3 (subst (HasRoom run) (spell_one form f.1 h f.2.formed (s ∙ sym f.2.spelled)) a.room)
@@ -101,7 +114,8 @@ adds_clash run next line form number (Order error) h s a m f = f
 adds_clash run next line form number Unended h s a m f = f
 adds_clash run next line form number Memory h s a m f = m refl
 
-pub end_clash : (run : RunValue) (line : List ℕ) (number : ℕ) (fault : RunError) → line ≡ codes "end" → 1 ≤ length run.goal → (fault ≡ Memory → ⊥) → IsLineFault run line number fault → ⊥
+pub end_clash : (run : RunValue) (line : List ℕ) (number : ℕ) (fault : RunError) → line ≡ codes "end" → 1 ≤ length run.goal → (fault ≡ Memory → ⊥)
+    → IsLineFault run line number fault → ⊥
 end_clash run line number (BadLine at) e g m f = let z : length run.goal ≡ 0 = f.2 e in absurd (omega arith)
 end_clash run line number (TooMany at) e g m f = no_last f.1 f.2.formed (f.2.spelled ∙ e)
 end_clash run line number (UnknownRole at) e g m f = no_last f.1 f.2.formed (f.2.spelled ∙ e)
@@ -125,13 +139,24 @@ pub same_cons : {A : Type 0} (x y : A) (xs ys : List A) → x ∷ xs ≡ y ∷ y
 same_cons x y xs ys e = (cc, cc)
 
 -- right lines before a line, and all right lines before the last one, tell what the line is
-aligned : (before all : List LineForm) (run mid last : RunValue) (line : List ℕ) (later : List (List ℕ)) → Each IsWellFormed before → Each IsWellFormed all
+aligned : (before all : List LineForm) (run mid last : RunValue) (line : List ℕ) (later : List (List ℕ)) → Each IsWellFormed before
+    → Each IsWellFormed all
     → map spell before ++ (line ∷ later) ≡ map spell all ++ (codes "end" ∷ []) → AddAll run before mid → AddAll run all last
     → IsOnTheWay mid line last ⊎ ((line ≡ codes "end") × (later ≡ []) × (mid ≡ last))
 aligned [] [] run mid last line later hb ha e b a = let s = same_cons line (codes "end") later [] e in inr (s.0, s.1, b ∙ sym a)
 aligned [] (form ∷ more) run mid last line later hb ha e b a =
     let s = same_cons line (spell form) later (map spell more ++ (codes "end" ∷ [])) e in
-    inl (record { form = form; formed = ha.0; spelled = sym s.0; next = a.0; adds = subst (λ (r : RunValue). Adds r form a.0) (sym b) a.1; more = more; each = ha.1; rest = a.2 })
+    inl (record {
+      form = form;
+      formed = ha.0;
+      spelled = sym s.0;
+      next = a.0;
+      adds = subst (λ (r : RunValue). Adds r form a.0)
+          (sym b) a.1;
+      more = more;
+      each = ha.1;
+      rest = a.2;
+    })
 aligned (form ∷ before) [] run mid last line later hb ha e b a =
     absurd (no_last form hb.0 (same_cons (spell form) (codes "end") (map spell before ++ (line ∷ later)) [] e).0)
 aligned (form ∷ before) (other ∷ all) run mid last line later hb ha e b a =
@@ -145,10 +170,12 @@ unaligned : (before all : List LineForm) → Each IsWellFormed before → map sp
 unaligned [] [] h e = absurd (cc)
 unaligned [] (other ∷ all) h e = absurd (cc)
 unaligned (form ∷ before) [] h e = no_last form h.0 (same_cons (spell form) (codes "end") (map spell before ++ []) [] e).0
-unaligned (form ∷ before) (other ∷ all) h e = unaligned before all h.1 (same_cons (spell form) (spell other) (map spell before ++ []) (map spell all ++ (codes "end" ∷ [])) e).1
+unaligned (form ∷ before) (other ∷ all) h e =
+    unaligned before all h.1 (same_cons (spell form) (spell other) (map spell before ++ []) (map spell all ++ (codes "end" ∷ [])) e).1
 
 -- the lines of two readings of one text
-same_lines : (bytes : List ℕ) (run last : RunValue) (n m : ℕ) (left : List (List ℕ)) (part : List ℕ) → (r : IsReadTo bytes run n left part) → (s : IsReadTo bytes last m (codes "end" ∷ []) [])
+same_lines : (bytes : List ℕ) (run last : RunValue) (n m : ℕ) (left : List (List ℕ)) (part : List ℕ) → (r : IsReadTo bytes run n left part)
+    → (s : IsReadTo bytes last m (codes "end" ∷ []) [])
     → (map spell r.lines ++ left ≡ map spell s.lines ++ (codes "end" ∷ [])) × (part ≡ [])
 same_lines bytes run last n m left part r s =
     let e = sym r.text ∙ s.text in
@@ -165,7 +192,8 @@ one_run bytes a b h k =
     by_case (inr e) = e.2
 
 -- what lines behind the role order keep
-pub keep_one : (run next : RunValue) (form : LineForm) → tells_order form ≡ false → Extends run form next → (next.names ≡ run.names) × (next.edges ≡ run.edges)
+pub keep_one : (run next : RunValue) (form : LineForm) → tells_order form ≡ false → Extends run form next → (next.names ≡ run.names)
+    × (next.edges ≡ run.edges)
 keep_one run next (a_role name) t g = absurd (cc)
 keep_one run next (an_edge senior junior) t g = absurd (cc)
 keep_one run next (an_assign admin range condition) t g = (ap (λ (r : RunValue). r.names) g.4, ap (λ (r : RunValue). r.edges) g.4)
@@ -186,11 +214,14 @@ no_order run (a_user words) late p = refl
 no_order run (an_act kind admin target role) late p = refl
 no_order run (a_goal condition) late p = refl
 
-pub still_late : (run next : RunValue) (form : LineForm) → IsWellFormed form → tells_order form ≡ false → Adds run form next → behind_edges next ≡ 0 → ⊥
+pub still_late : (run next : RunValue) (form : LineForm) → IsWellFormed form → tells_order form ≡ false → Adds run form next
+    → behind_edges next ≡ 0 → ⊥
 still_late run next form h t a =
-    begun run next (spell form) (record { form = form; formed = h; spelled = refl; adds = a }) (λ o. absurd (false≢true (sym t ∙ sym (order_line_is form) ∙ o)))
+    begun run next (spell form) (record { form = form; formed = h; spelled = refl; adds = a })
+    (λ o. absurd (false≢true (sym t ∙ sym (order_line_is form) ∙ o)))
 
-pub keep_all : (run last : RunValue) (lines : List LineForm) → Each IsWellFormed lines → (behind_edges run ≡ 0 → ⊥) → AddAll run lines last → (last.names ≡ run.names) × (last.edges ≡ run.edges)
+pub keep_all : (run last : RunValue) (lines : List LineForm) → Each IsWellFormed lines → (behind_edges run ≡ 0 → ⊥) → AddAll run lines last
+    → (last.names ≡ run.names) × (last.edges ≡ run.edges)
 keep_all run last [] h late a = (ap (λ (r : RunValue). r.names) a, ap (λ (r : RunValue). r.edges) a)
 keep_all run last (line ∷ lines) h late a =
     let t = no_order run line late a.1.place in
@@ -199,7 +230,8 @@ keep_all run last (line ∷ lines) h late a =
     (l.0 ∙ k.0, l.1 ∙ k.1)
 
 -- at a line that is at fault no text stands for a run
-inside_clash : (bytes : List ℕ) (value : RunValue) (fault : RunError) → StandsFor bytes value → (fault ≡ Memory → ⊥) → IsFaultInside bytes fault → ⊥
+inside_clash : (bytes : List ℕ) (value : RunValue) (fault : RunError) → StandsFor bytes value → (fault ≡ Memory → ⊥) → IsFaultInside bytes fault
+    → ⊥
 inside_clash bytes value fault h m f =
     let s = same_lines bytes f.run value f.number h.number (f.line ∷ f.later) f.part f.read h.read in
     by_case (aligned f.read.lines h.read.lines nothing f.run value f.line f.later f.read.formed h.read.formed s.0 f.read.added h.read.added)
@@ -209,7 +241,8 @@ inside_clash bytes value fault h m f =
     by_case (inr e) = end_clash f.run f.line f.number fault e.0 (subst (λ (r : RunValue). 1 ≤ length r.goal) (sym e.2) h.goal) m f.fault_is
 
 ahead_clash : (bytes : List ℕ) (value : RunValue) (at : ℕ) → StandsFor bytes value → IsFaultAhead bytes at → ⊥
-ahead_clash bytes value at h f = f.other (same_cons f.line (codes "run 1") f.later _ (ap (λ (p : List (List ℕ) × List ℕ). p.0) (sym f.text ∙ h.read.text))).0
+ahead_clash bytes value at h f =
+    f.other (same_cons f.line (codes "run 1") f.later _ (ap (λ (p : List (List ℕ) × List ℕ). p.0) (sym f.text ∙ h.read.text))).0
 
 behind_clash : (bytes : List ℕ) (value : RunValue) (at : ℕ) → StandsFor bytes value → IsFaultBehind bytes at → ⊥
 behind_clash bytes value at h f =
@@ -231,7 +264,8 @@ order_fault_clash bytes value error h f =
         let Q : List (ℕ × ℕ) → Type 0 = λ edges. IsOrder value.names edges in
         order_clash f.run.names f.run.edges error (subst P n (subst Q e h.order)) f.refused f.told
 
-    by_case : (line : List ℕ) (later : List (List ℕ)) → is_order_line line ≡ false → IsOnTheWay f.run line value ⊎ ((line ≡ codes "end") × (later ≡ []) × (f.run ≡ value)) → ⊥
+    by_case : (line : List ℕ) (later : List (List ℕ)) → is_order_line line ≡ false → IsOnTheWay f.run line value
+        ⊎ ((line ≡ codes "end") × (later ≡ []) × (f.run ≡ value)) → ⊥
     by_case line later o (inl w) =
         let t : tells_order w.form ≡ false = sym (order_line_is w.form) ∙ ap is_order_line w.spelled ∙ o in
         let k = keep_one f.run w.next w.form t w.adds.extends in
@@ -241,7 +275,8 @@ order_fault_clash bytes value error h f =
 
     by_left : (left : List (List ℕ)) → EndsOrder left → map spell f.read.lines ++ left ≡ map spell h.read.lines ++ (codes "end" ∷ []) → ⊥
     by_left [] o e = unaligned f.read.lines h.read.lines f.read.formed e
-    by_left (line ∷ later) o e = by_case line later o (aligned f.read.lines h.read.lines nothing f.run value line later f.read.formed h.read.formed e f.read.added h.read.added)
+    by_left (line ∷ later) o e =
+        by_case line later o (aligned f.read.lines h.read.lines nothing f.run value line later f.read.formed h.read.formed e f.read.added h.read.added)
 
 unended_clash : (bytes : List ℕ) (value : RunValue) → StandsFor bytes value → IsUnended bytes → ⊥
 unended_clash bytes value h f =
@@ -251,7 +286,8 @@ no_lines_clash : (bytes : List ℕ) (value : RunValue) → StandsFor bytes value
 no_lines_clash bytes value h e = let there = sym (ap (λ (p : List (List ℕ) × List ℕ). p.0) h.read.text) ∙ e in absurd (cc)
 
 -- a text that stands for a run has no fault
-pub first_clash : (bytes : List ℕ) (value : RunValue) (fault : RunError) → StandsFor bytes value → (fault ≡ Memory → ⊥) → IsFirstFault bytes fault → ⊥
+pub first_clash : (bytes : List ℕ) (value : RunValue) (fault : RunError) → StandsFor bytes value → (fault ≡ Memory → ⊥) → IsFirstFault bytes fault
+    → ⊥
 first_clash bytes value (BadLine at) h m (inl f) = ahead_clash bytes value at h f
 first_clash bytes value (BadLine at) h m (inr (inl f)) = inside_clash bytes value (BadLine at) h m f
 first_clash bytes value (BadLine at) h m (inr (inr f)) = behind_clash bytes value at h f

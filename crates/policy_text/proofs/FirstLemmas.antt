@@ -1,5 +1,6 @@
 -- A text has one first fault at most.
-use Rattle.std.proofs.Common.{ℕ, ◌≡◌, ◌≤◌, ◌+◌, ◌⊎◌, inl, inr, false, List, [], ◌∷◌, ◌++◌, length, refl, arith, sym, ◌∙◌, ap, subst, map, zero, suc}
+use Rattle.std.proofs.Common.{ℕ, ◌≡◌, ◌≤◌, ◌+◌, ◌⊎◌, inl, inr, false, List, [], ◌∷◌, ◌++◌, length, refl, arith, sym}
+use Rattle.std.proofs.Common.{◌∙◌, ap, subst, map, zero, suc}
 use Rattle.std.specs.Prelude.{codes}
 use Rattle.std.proofs.lemmas.Bool.{false≢true}
 use Rattle.role_order.specs.declared.order.OrderError.{OrderError}
@@ -21,12 +22,14 @@ use Rattle.policy_text.specs.Runs.{RunValue, nothing, HasRoom, Adds, AddAll, beh
 use Rattle.policy_text.specs.Faults.{HasUnknown, HasCondFault, IsPlaced, IsLineFault, IsPastOrder, EndsOrder, IsFaultInside, IsFaultAhead, IsFirstFault}
 use Rattle.policy_text.proofs.StepLemmas.{order_line_is}
 use Rattle.policy_text.proofs.SoleLemmas.{extends_one}
-use Rattle.policy_text.proofs.OrderLemmas.{order_clash, refusal_one}
-use Rattle.policy_text.proofs.ClashLemmas.{IsOnTheWay, cond_clash_at, adds_clash, end_clash, no_last, spell_one, same_cons, keep_one, no_order, still_late, keep_all}
+use Rattle.cond_text.proofs.OrderLemmas.{order_clash, refusal_one}
+use Rattle.policy_text.proofs.ClashLemmas.{IsOnTheWay, cond_clash_at, adds_clash, end_clash, no_last, spell_one, same_cons, keep_one, no_order, still_late}
+use Rattle.policy_text.proofs.ClashLemmas.{keep_all}
 
 -- conditions
 
-cond_fault_at : (count : ℕ) (before : List Word) (x : Placed) (rest : List Placed) (a b : CondError) → IsFaultAt count before x rest a → IsFaultAt count before x rest b → a ≡ b
+cond_fault_at : (count : ℕ) (before : List Word) (x : Placed) (rest : List Placed) (a b : CondError) → IsFaultAt count before x rest a
+    → IsFaultAt count before x rest b → a ≡ b
 cond_fault_at count before x rest conditions.Memory b f g = absurd f
 cond_fault_at count before x rest (conditions.Unexpected p) conditions.Memory f g = absurd g
 cond_fault_at count before x rest (conditions.Unexpected p) (conditions.Unexpected q) f g = ap conditions.Unexpected (f.0 ∙ sym g.0)
@@ -41,20 +44,23 @@ cond_fault_at count before x rest (conditions.UnknownRole p) (conditions.Unexpec
 cond_fault_at count before x rest (conditions.UnknownRole p) (conditions.TooDeep q) f g = absurd (f.2 g.2)
 cond_fault_at count before x rest (conditions.UnknownRole p) (conditions.UnknownRole q) f g = ap conditions.UnknownRole (f.0 ∙ sym g.0)
 
-cond_fault_one : (count size : ℕ) (ws : List Placed) (before : List Word) (a b : CondError) → IsFirstCondFault count size before ws a → IsFirstCondFault count size before ws b → a ≡ b
+cond_fault_one : (count size : ℕ) (ws : List Placed) (before : List Word) (a b : CondError) → IsFirstCondFault count size before ws a
+    → IsFirstCondFault count size before ws b → a ≡ b
 cond_fault_one count size [] before a b f g = f.0 ∙ sym g.0
 cond_fault_one count size (x ∷ xs) before a b (inl f) (inl g) = cond_fault_at count before x xs a b f g
 cond_fault_one count size (x ∷ xs) before a b (inl f) (inr g) = absurd (cond_clash_at count before x xs a f g.0)
 cond_fault_one count size (x ∷ xs) before a b (inr f) (inl g) = absurd (cond_clash_at count before x xs b g f.0)
 cond_fault_one count size (x ∷ xs) before a b (inr f) (inr g) = cond_fault_one count size xs (before ++ (x.word ∷ [])) a b f.1 g.1
 
-refused_is : (names : List (List ℕ)) (text : List ℕ) (e : CondError) → IsRefusedCond names text e → (e ≡ conditions.Memory → ⊥) → IsFirstCondFault (length names) (length text) [] (placed_words names text) e
+refused_is : (names : List (List ℕ)) (text : List ℕ) (e : CondError) → IsRefusedCond names text e → (e ≡ conditions.Memory → ⊥)
+    → IsFirstCondFault (length names) (length text) [] (placed_words names text) e
 refused_is names text (conditions.Unexpected p) r m = r
 refused_is names text (conditions.TooDeep p) r m = r
 refused_is names text (conditions.UnknownRole p) r m = r
 refused_is names text conditions.Memory r m = absurd (m refl)
 
-refused_one : (names : List (List ℕ)) (text : List ℕ) (a b : CondError) → IsRefusedCond names text a × (a ≡ conditions.Memory → ⊥) → IsRefusedCond names text b × (b ≡ conditions.Memory → ⊥) → a ≡ b
+refused_one : (names : List (List ℕ)) (text : List ℕ) (a b : CondError) → IsRefusedCond names text a × (a ≡ conditions.Memory → ⊥)
+    → IsRefusedCond names text b × (b ≡ conditions.Memory → ⊥) → a ≡ b
 refused_one names text a b f g =
     cond_fault_one (length names) (length text) (placed_words names text) [] a b (refused_is names text a f.0 f.1) (refused_is names text b g.0 g.1)
 
@@ -76,7 +82,8 @@ cond_pair : (m n : ℕ) (a b : CondError) → m ≡ n → a ≡ b → Cond m a �
 cond_pair m n a b e f = ap (λ (k : ℕ). Cond k a) e ∙ ap (λ (c : CondError). Cond n c) f
 
 -- a line has one fault
-line_one : (run : RunValue) (line : List ℕ) (number : ℕ) (a b : RunError) → IsLineFault run line number a → IsLineFault run line number b → (a ≡ Memory → ⊥) → (b ≡ Memory → ⊥) → a ≡ b
+line_one : (run : RunValue) (line : List ℕ) (number : ℕ) (a b : RunError) → IsLineFault run line number a → IsLineFault run line number b
+    → (a ≡ Memory → ⊥) → (b ≡ Memory → ⊥) → a ≡ b
 line_one run line number Memory b f g m n = absurd (m refl)
 line_one run line number (Order e) b f g m n = absurd f
 line_one run line number Unended b f g m n = absurd f
@@ -108,7 +115,8 @@ line_one run line number (Cond k e) (BadLine l) f g m n = absurd (g.1 f.1 f.2)
 line_one run line number (Cond k e) (TooMany l) f g m n = absurd (g.3 (subst (HasRoom run) (form_one run line f.1 g.1 f.2 g.2) f.3))
 line_one run line number (Cond k e) (UnknownRole l) f g m n = absurd (f.4 (subst (HasUnknown run.names) (form_one run line g.1 f.1 g.2 f.2) g.4))
 line_one run line number (Cond k e) (Cond l d) f g m n =
-    cond_pair k l e d (f.0 ∙ sym g.0) (condition_one run.names g.1 e d (subst (λ (s : LineForm). HasCondFault run.names s e) (form_one run line f.1 g.1 f.2 g.2) f.5) g.5)
+    cond_pair k l e d (f.0 ∙ sym g.0)
+    (condition_one run.names g.1 e d (subst (λ (s : LineForm). HasCondFault run.names s e) (form_one run line f.1 g.1 f.2 g.2) f.5) g.5)
 
 -- where a text stops
 
@@ -150,14 +158,17 @@ some_goal : (n : ℕ) → (n ≡ 0 → ⊥) → 1 ≤ n
 some_goal zero h = absurd (h refl)
 some_goal (suc n) h = omega arith
 
-past_clash : (run : RunValue) (line : List ℕ) (error : OrderError) → IsPastOrder run line → is_order_line line ≡ false → IsRefusedOrder run.names run.edges error → (error ≡ refusals.Memory → ⊥) → ⊥
+past_clash : (run : RunValue) (line : List ℕ) (error : OrderError) → IsPastOrder run line → is_order_line line ≡ false
+    → IsRefusedOrder run.names run.edges error → (error ≡ refusals.Memory → ⊥) → ⊥
 past_clash run line error (inl p) o r m = absurd (false≢true (sym o ∙ p.1))
 past_clash run line error (inr p) o r m = order_clash run.names run.edges error p r m
 
-line_order_clash : (run : RunValue) (number : ℕ) (left : List (List ℕ)) (a b : RunError) → StopsInLine run number left a → StopsAtOrder run left b → ⊥
+line_order_clash : (run : RunValue) (number : ℕ) (left : List (List ℕ)) (a b : RunError) → StopsInLine run number left a → StopsAtOrder run left b
+    → ⊥
 line_order_clash run number left a b f g = past_clash run f.line g.error f.past (subst EndsOrder f.left_is g.ends) g.refused g.told
 
-line_end_clash : (run : RunValue) (number : ℕ) (left : List (List ℕ)) (a b : RunError) → StopsInLine run number left a → StopsBehindEnd run number left b → ⊥
+line_end_clash : (run : RunValue) (number : ℕ) (left : List (List ℕ)) (a b : RunError) → StopsInLine run number left a
+    → StopsBehindEnd run number left b → ⊥
 line_end_clash run number left a b f g =
     let s = same_cons f.line (codes "end") f.later g.later (sym f.left_is ∙ g.left_is) in
     end_clash run f.line number a s.0 (some_goal (length run.goal) g.goal) f.told f.fault_is
@@ -179,7 +190,8 @@ stop_one run number left a b (behind_end f) (at_order g) = absurd (order_clash r
 stop_one run number left a b (behind_end f) (unended g) = absurd (cons_clash left (codes "end") f.later f.left_is g.left_is)
 stop_one run number left a b (at_order f) (in_line g) = absurd (line_order_clash run number left b a g f)
 stop_one run number left a b (at_order f) (behind_end g) = absurd (order_clash run.names run.edges f.error g.order f.refused f.told)
-stop_one run number left a b (at_order f) (at_order g) = f.fault_is ∙ ap Order (refusal_one run.names run.edges f.error g.error f.refused g.refused f.told g.told) ∙ sym g.fault_is
+stop_one run number left a b (at_order f) (at_order g) =
+    f.fault_is ∙ ap Order (refusal_one run.names run.edges f.error g.error f.refused g.refused f.told g.told) ∙ sym g.fault_is
 stop_one run number left a b (at_order f) (unended g) = absurd (order_clash run.names run.edges f.error g.order f.refused f.told)
 stop_one run number left a b (unended f) (in_line g) = absurd (cons_clash left g.line g.later g.left_is f.left_is)
 stop_one run number left a b (unended f) (behind_end g) = absurd (cons_clash left (codes "end") g.later g.left_is f.left_is)
@@ -193,13 +205,15 @@ record GoesFurther (run : RunValue) (left : List (List ℕ)) (last : RunValue) :
   left_is : left ≡ line ∷ later
   way : IsOnTheWay run line last
 
-late_all : (run last : RunValue) (lines : List LineForm) → Each IsWellFormed lines → (behind_edges run ≡ 0 → ⊥) → AddAll run lines last → behind_edges last ≡ 0 → ⊥
+late_all : (run last : RunValue) (lines : List LineForm) → Each IsWellFormed lines → (behind_edges run ≡ 0 → ⊥) → AddAll run lines last
+    → behind_edges last ≡ 0 → ⊥
 late_all run last [] h late a = subst (λ (r : RunValue). behind_edges r ≡ 0 → ⊥) (sym a) late
 late_all run last (line ∷ lines) h late a =
     late_all a.0 last lines h.1 (still_late run a.0 line h.0 (no_order run line late a.1.place) a.1) a.2
 
 -- behind a line that is none of the role order's, a text stops only under an order
-late_order : (run : RunValue) (number : ℕ) (left : List (List ℕ)) (fault : RunError) → Stops run number left fault → (behind_edges run ≡ 0 → ⊥) → IsOrder run.names run.edges
+late_order : (run : RunValue) (number : ℕ) (left : List (List ℕ)) (fault : RunError) → Stops run number left fault → (behind_edges run ≡ 0 → ⊥)
+    → IsOrder run.names run.edges
 late_order run number left fault (in_line f) late = by_past f.past
   where
     by_past : IsPastOrder run f.line → IsOrder run.names run.edges
@@ -210,7 +224,8 @@ late_order run number left fault (at_order f) late = absurd (late f.early)
 late_order run number left fault (unended f) late = f.order
 
 -- a text stops before no right line
-stop_clash : (run last : RunValue) (n m : ℕ) (left right : List (List ℕ)) (a b : RunError) → Stops run n left a → Stops last m right b → GoesFurther run left last → ⊥
+stop_clash : (run last : RunValue) (n m : ℕ) (left right : List (List ℕ)) (a b : RunError) → Stops run n left a → Stops last m right b
+    → GoesFurther run left last → ⊥
 stop_clash run last n m left right a b (in_line f) t g =
     let s = same_cons f.line g.line f.later g.later (sym f.left_is ∙ g.left_is) in
     adds_clash run g.way.next f.line g.way.form n a g.way.formed (g.way.spelled ∙ sym s.0) g.way.adds f.told f.fault_is
@@ -231,20 +246,41 @@ stop_clash run last n m left right a b (at_order f) t g =
 stop_clash run last n m left right a b (unended f) t g = cons_clash left g.line g.later g.left_is f.left_is
 
 -- two readings of one text: they end at one place, or one goes further
-compare : (xs ys : List LineForm) (run a b : RunValue) (left right : List (List ℕ)) → Each IsWellFormed xs → Each IsWellFormed ys → map spell xs ++ left ≡ map spell ys ++ right → AddAll run xs a → AddAll run ys b
+compare : (xs ys : List LineForm) (run a b : RunValue) (left right : List (List ℕ)) → Each IsWellFormed xs → Each IsWellFormed ys
+    → map spell xs ++ left ≡ map spell ys ++ right → AddAll run xs a → AddAll run ys b
     → ((left ≡ right) × (a ≡ b) × (length xs ≡ length ys)) ⊎ (GoesFurther a left b ⊎ GoesFurther b right a)
 compare [] [] run a b left right hx hy e f g = inl (e, f ∙ sym g, refl)
 compare [] (y ∷ ys) run a b left right hx hy e f g = inr (inl (record {
   line = spell y;
   later = map spell ys ++ right;
   left_is = e;
-  way = record { form = y; formed = hy.0; spelled = refl; next = g.0; adds = subst (λ (r : RunValue). Adds r y g.0) (sym f) g.1; more = ys; each = hy.1; rest = g.2 };
+  way = record {
+    form = y;
+    formed = hy.0;
+    spelled = refl;
+    next = g.0;
+    adds = subst (λ (r : RunValue). Adds r y g.0)
+        (sym f) g.1;
+    more = ys;
+    each = hy.1;
+    rest = g.2;
+  };
 }))
 compare (x ∷ xs) [] run a b left right hx hy e f g = inr (inr (record {
   line = spell x;
   later = map spell xs ++ left;
   left_is = sym e;
-  way = record { form = x; formed = hx.0; spelled = refl; next = f.0; adds = subst (λ (r : RunValue). Adds r x f.0) (sym g) f.1; more = xs; each = hx.1; rest = f.2 };
+  way = record {
+    form = x;
+    formed = hx.0;
+    spelled = refl;
+    next = f.0;
+    adds = subst (λ (r : RunValue). Adds r x f.0)
+        (sym g) f.1;
+    more = xs;
+    each = hx.1;
+    rest = f.2;
+  };
 }))
 compare (x ∷ xs) (y ∷ ys) run a b left right hx hy e f g =
     let s = same_cons (spell x) (spell y) (map spell xs ++ left) (map spell ys ++ right) e in
@@ -266,16 +302,19 @@ record Stop (bytes : List ℕ) (fault : RunError) : Type 0 where
   read : IsReadTo bytes run number left part
   stops : Stops run number left fault
 
-read_lines : (bytes : List ℕ) (a b : RunValue) (n m : ℕ) (left right : List (List ℕ)) (p q : List ℕ) → (r : IsReadTo bytes a n left p) → (s : IsReadTo bytes b m right q)
+read_lines : (bytes : List ℕ) (a b : RunValue) (n m : ℕ) (left right : List (List ℕ)) (p q : List ℕ) → (r : IsReadTo bytes a n left p)
+    → (s : IsReadTo bytes b m right q)
     → map spell r.lines ++ left ≡ map spell s.lines ++ right
-read_lines bytes a b n m left right p q r s = (same_cons (codes "run 1") (codes "run 1") _ _ (ap (λ (p : List (List ℕ) × List ℕ). p.0) (sym r.text ∙ s.text))).1
+read_lines bytes a b n m left right p q r s =
+    (same_cons (codes "run 1") (codes "run 1") _ _ (ap (λ (p : List (List ℕ) × List ℕ). p.0) (sym r.text ∙ s.text))).1
 
 stops_one : (bytes : List ℕ) (a b : RunError) → Stop bytes a → Stop bytes b → a ≡ b
 stops_one bytes a b f g =
     by_case (compare f.read.lines g.read.lines nothing f.run g.run f.left g.left f.read.formed g.read.formed
     (read_lines bytes f.run g.run f.number g.number f.left g.left f.part g.part f.read g.read) f.read.added g.read.added)
   where
-    by_case : ((f.left ≡ g.left) × (f.run ≡ g.run) × (length f.read.lines ≡ length g.read.lines)) ⊎ (GoesFurther f.run f.left g.run ⊎ GoesFurther g.run g.left f.run) → a ≡ b
+    by_case : ((f.left ≡ g.left) × (f.run ≡ g.run) × (length f.read.lines ≡ length g.read.lines))
+        ⊎ (GoesFurther f.run f.left g.run ⊎ GoesFurther g.run g.left f.run) → a ≡ b
     by_case (inl h) =
         let number : f.number ≡ g.number = f.read.number_is ∙ ap (λ (n : ℕ). 2 + n) h.2 ∙ sym g.read.number_is in
         let P : RunValue → Type 0 = λ r. Stops r f.number f.left a in
@@ -339,10 +378,12 @@ lines_of bytes lines other p q e f = ap (λ (s : List (List ℕ) × List ℕ). s
 
 ahead_stop : (bytes : List ℕ) (at : ℕ) (fault : RunError) → IsFaultAhead bytes at → Stop bytes fault → ⊥
 ahead_stop bytes at fault f g =
-    f.other (same_cons f.line (codes "run 1") f.later (map spell g.read.lines ++ g.left) (lines_of bytes (f.line ∷ f.later) (codes "run 1" ∷ (map spell g.read.lines ++ g.left)) f.part g.part f.text g.read.text)).0
+    f.other (same_cons f.line (codes "run 1") f.later (map spell g.read.lines ++ g.left)
+    (lines_of bytes (f.line ∷ f.later) (codes "run 1" ∷ (map spell g.read.lines ++ g.left)) f.part g.part f.text g.read.text)).0
 
 none_stop : (bytes : List ℕ) (fault : RunError) → (split bytes).0 ≡ [] → Stop bytes fault → ⊥
-none_stop bytes fault e g = cons_clash (split bytes).0 (codes "run 1") (map spell g.read.lines ++ g.left) (ap (λ (s : List (List ℕ) × List ℕ). s.0) g.read.text) e
+none_stop bytes fault e g =
+    cons_clash (split bytes).0 (codes "run 1") (map spell g.read.lines ++ g.left) (ap (λ (s : List (List ℕ) × List ℕ). s.0) g.read.text) e
 
 none_ahead : (bytes : List ℕ) (at : ℕ) → (split bytes).0 ≡ [] → IsFaultAhead bytes at → ⊥
 none_ahead bytes at e f = cons_clash (split bytes).0 f.line f.later (ap (λ (s : List (List ℕ) × List ℕ). s.0) f.text) e

@@ -1,71 +1,26 @@
 -- Each line that has a form is read as that form.
-use Rattle.std.proofs.Common.{ℕ, ◌≡◌, ◌<◌, ◌^◌, Bool, true, false, List, [], ◌∷◌, ◌++◌, append_assoc, refl, sym, ◌∙◌, ap, Some, eqb, cond}
+use Rattle.std.proofs.Common.{ℕ, ◌≡◌, ◌<◌, ◌^◌, List, [], ◌∷◌, ◌++◌, append_assoc, append-nil, refl, sym, ◌∙◌, ap, Some}
 use Rattle.std.specs.Prelude.{codes}
 use Rattle.std.specs.Fmt.{decimal}
 use Rattle.std.specs.Str.{IsUtf8}
 use Rattle.std.proofs.lemmas.Str.{is_utf8-from_IsUtf8}
 use Rattle.list_words.specs.Lists.{Each}
-use Rattle.role_order.specs.Names.{is_name}
 use Rattle.arbac_policy.specs.declared.act.ActKind.{ActKind}
 use Rattle.arbac_policy.specs.declared.act.ActKind.TheVariants.{Assign, Weak, Strong}
-use Rattle.policy_text.specs.Lines.{cut}
-use Rattle.policy_text.specs.LineForms.{LineForm, NamedRange, a_role, an_edge, an_assign, a_revoke, a_user, an_act, a_goal, IsName, IsNamedRange, IsWellFormed, spell, spell_kind, spell_range, spell_names}
-use Rattle.policy_text.specs.Spelling.{name_in, text_in, opening_in, closing_in, range_in, kind_in, role_in, edge_in, assign_in, revoke_in, user_in, words, names_behind, act_in, goal_in, keyword_in, form_of}
-use Rattle.policy_text.proofs.LineLemmas.{Lacks, cut_behind, cut_nowhere}
-use Rattle.policy_text.proofs.WordLemmas.{name_lacks, words_cut, words_one}
+use Rattle.cond_text.specs.Cuts.{cut, IsName}
+use Rattle.cond_text.specs.Ranges.{NamedRange, IsNamedRange, spell_range}
+use Rattle.policy_text.specs.LineForms.{LineForm, a_role, an_edge, an_assign, a_revoke, a_user, an_act, a_goal, IsWellFormed, spell, spell_kind, spell_names}
+use Rattle.policy_text.specs.Spelling.{text_in, kind_in, role_in, edge_in, assign_in, revoke_in, user_in, words, names_behind, act_in, goal_in, keyword_in}
+use Rattle.policy_text.specs.Spelling.{form_of}
+use Rattle.cond_text.proofs.CutLemmas.{Lacks, cut_behind, cut_nowhere, lacks_append}
+use Rattle.cond_text.proofs.NamedLemmas.{name_lacks, name_found}
+use Rattle.policy_text.proofs.WordLemmas.{words_cut, words_one}
 use Rattle.policy_text.proofs.NumberLemmas.{number_found, decimal_lacks}
-
-pub name_found : (text : List ℕ) → is_name text ≡ true → name_in text ≡ Some text
-unfolding name_in
-name_found text h = rw h refl
+use Rattle.cond_text.proofs.RangeLemmas.{range_found, range_lacks}
 
 text_found : (text : List ℕ) → IsUtf8 text → text_in text ≡ Some text
 unfolding text_in
 text_found text h = rw (is_utf8-from_IsUtf8 text h) refl
-
-pub lacks_append : (sign : ℕ) (xs ys : List ℕ) → Lacks sign xs → Lacks sign ys → Lacks sign (xs ++ ys)
-lacks_append sign [] ys h k = k
-lacks_append sign (x ∷ xs) ys h k = (h.0, lacks_append sign xs ys h.1 k)
-
-closed_found : (high : List ℕ) → IsName high → closing_in (high ++ (93 ∷ [])) ≡ Some (high, false)
-unfolding closing_in
-closed_found high h = rw (cut_behind 93 high [] (name_lacks 93 high refl h)) refl
-
-open_found : (high : List ℕ) → IsName high → closing_in (high ++ (41 ∷ [])) ≡ Some (high, true)
-unfolding closing_in
-open_found high h =
-    rw (cut_nowhere 93 (high ++ (41 ∷ [])) (lacks_append 93 high (41 ∷ []) (name_lacks 93 high refl h) (refl, tt)), cut_behind 41 high [] (name_lacks 41 high refl h)) refl
-
-end_found : (high : List ℕ) (is_open : Bool) → IsName high → closing_in (high ++ ((cond is_open 41 93) ∷ [])) ≡ Some (high, is_open)
-end_found high true h = open_found high h
-end_found high false h = closed_found high h
-
-start_found : (is_open : Bool) (rest : List ℕ) → opening_in ((cond is_open 40 91) ∷ rest) ≡ Some (is_open, rest)
-unfolding opening_in
-start_found true rest = refl
-start_found false rest = refl
-
-pub range_found : (r : NamedRange) → IsNamedRange r → range_in (spell_range r) ≡ Some r
-unfolding range_in
-range_found r h =
-    rw (
-      start_found r.low_open (r.low ++ (44 ∷ (r.high ++ ((cond r.high_open 41 93) ∷ [])))),
-      cut_behind 44 r.low (r.high ++ ((cond r.high_open 41 93) ∷ [])) (name_lacks 44 r.low refl h.0),
-      name_found r.low h.0,
-      end_found r.high r.high_open h.1,
-      name_found r.high h.1,
-    ) refl
-
-sign_lacks : (is_open : Bool) (a b : ℕ) → eqb a 32 ≡ false → eqb b 32 ≡ false → eqb (cond is_open a b) 32 ≡ false
-sign_lacks true a b h k = h
-sign_lacks false a b h k = k
-
-range_lacks : (r : NamedRange) → IsNamedRange r → Lacks 32 (spell_range r)
-range_lacks r h = (
-  sign_lacks r.low_open 40 91 refl refl,
-  lacks_append 32 r.low (44 ∷ (r.high ++ ((cond r.high_open 41 93) ∷ []))) (name_lacks 32 r.low refl h.0)
-      (refl, lacks_append 32 r.high ((cond r.high_open 41 93) ∷ []) (name_lacks 32 r.high refl h.1) (sign_lacks r.high_open 41 93 refl refl, tt)),
-)
 
 role_found : (name : List ℕ) → IsName name → role_in name ≡ Some (a_role name)
 unfolding role_in
@@ -87,31 +42,26 @@ assign_found admin range condition h k l =
       text_found condition l,
     ) refl
 
-revoke_found : (admin : List ℕ) (range : NamedRange) → IsName admin → IsNamedRange range → revoke_in (admin ++ (32 ∷ spell_range range)) ≡ Some (a_revoke admin range)
+revoke_found : (admin : List ℕ) (range : NamedRange) → IsName admin → IsNamedRange range → revoke_in (admin ++ (32 ∷ spell_range range)) ≡ Some
+    (a_revoke admin range)
 unfolding revoke_in
 revoke_found admin range h k = rw (cut_behind 32 admin (spell_range range) (name_lacks 32 admin refl h), name_found admin h, range_found range k) refl
 
 words_found : (name : List ℕ) (names : List (List ℕ)) → IsName name → Each IsName names → words (name ++ spell_names names) ≡ name ∷ names
 words_found name [] h k =
-    words_one (name ++ []) (cut_nowhere 32 (name ++ []) (lacks_append 32 name [] (name_lacks 32 name refl h) tt)) ∙ ap (λ n. n ∷ []) (append_nil name)
-  where
-    append_nil : (xs : List ℕ) → xs ++ [] ≡ xs
-    append_nil [] = refl
-    append_nil (x ∷ xs) = ap (λ t. x ∷ t) (append_nil xs)
+    words_one (name ++ []) (cut_nowhere 32 (name ++ []) (lacks_append 32 name [] (name_lacks 32 name refl h) tt)) ∙ ap (λ n. n ∷ []) (append-nil name)
 words_found name (next ∷ names) h k =
-    words_cut (name ++ (32 ∷ (next ++ spell_names names))) name (next ++ spell_names names) (cut_behind 32 name (next ++ spell_names names) (name_lacks 32 name refl h))
+    words_cut (name ++ (32 ∷ (next ++ spell_names names))) name (next ++ spell_names names)
+    (cut_behind 32 name (next ++ spell_names names) (name_lacks 32 name refl h))
     ∙ ap (λ t. name ∷ t) (words_found next names k.0 k.1)
 
 all_names : (before names : List (List ℕ)) → Each IsName names → names_behind before names ≡ Some (before ++ names)
 unfolding names_behind
-all_names before [] h = ap Some (sym (append_nil before))
-  where
-    append_nil : (xs : List (List ℕ)) → xs ++ [] ≡ xs
-    append_nil [] = refl
-    append_nil (x ∷ xs) = ap (λ t. x ∷ t) (append_nil xs)
+all_names before [] h = ap Some (sym (append-nil before))
 all_names before (name ∷ names) h = rw h.0 (all_names (before ++ name ∷ []) names h.1 ∙ ap Some (append_assoc before (name ∷ []) names))
 
-user_found : (name : List ℕ) (names : List (List ℕ)) → IsName name → Each IsName names → user_in (name ++ spell_names names) ≡ Some (a_user (name ∷ names))
+user_found : (name : List ℕ) (names : List (List ℕ)) → IsName name → Each IsName names
+    → user_in (name ++ spell_names names) ≡ Some (a_user (name ∷ names))
 unfolding user_in
 user_found name names h k = rw (words_found name names h k, all_names [] (name ∷ names) (h, k)) refl
 

@@ -7,7 +7,6 @@ pub mod StepLemmas
 pub mod RunLemmas
 pub mod UserLemmas
 pub mod SoleLemmas
-pub mod OrderLemmas
 pub mod ClashLemmas
 pub mod FirstLemmas
 pub mod ReadLemmas

@@ -8,9 +8,12 @@ use Rattle.std.specs.Str.Parse.{digits_value}
 use Rattle.std.proofs.lemmas.Bool.{ne_eqb, eq-eqb, eqb-true}
 use Rattle.std.proofs.lemmas.Bool.Decides.{nat_tests}
 use Rattle.std.proofs.lemmas.Fmt.{digits_decimal, digits_value-decimal, decimal_nonempty, decimal_digit, first_decimal, decimal-digits_value}
-use Rattle.policy_text.specs.Spelling.{only_if, is_numeral, number_in}
-use Rattle.policy_text.proofs.LineLemmas.{Lacks}
-use Rattle.policy_text.proofs.WordLemmas.{own, and_left, and_right, lacks_other, digits_of, numeral_long}
+use Rattle.cond_text.specs.Cuts.{only_if}
+use Rattle.policy_text.specs.Spelling.{is_numeral, number_in}
+use Rattle.cond_text.proofs.CutLemmas.{Lacks}
+use Rattle.cond_text.proofs.NamedLemmas.{lacks_other}
+use Rattle.policy_text.proofs.WordLemmas.{own, digits_of, numeral_long}
+use Rattle.list_words.proofs.TestLemmas.{and_both}
 
 fits : (n : ℕ) → n < 2 ^ 32 → n < 2 ^ 64
 fits n h = omega arith
@@ -46,20 +49,25 @@ unled text h first =
     let same : eqb (get_or text 0 0) 48 ≡ true = eq-eqb (get_or text 0 0) 48 first in
     eqb-true (length text) 1 (rw same at h)
 
-value_is : (text : List ℕ) → is_numeral text ≡ true → ltb (digits_value 10 text) (2 ^ 32) ≡ true → (digits_value 10 text < 2 ^ 32) × (decimal (digits_value 10 text) ≡ text)
+value_is : (text : List ℕ) → is_numeral text ≡ true → ltb (digits_value 10 text) (2 ^ 32) ≡ true → (digits_value 10 text < 2 ^ 32)
+    × (decimal (digits_value 10 text) ≡ text)
 unfolding is_numeral
 value_is text numeral small =
-    let less : digits_value 10 text < 2 ^ 32 = grind (arith, nat_tests) in
-    (less, decimal-digits_value own text (digits_of text numeral) (numeral_long text numeral) (unled text (and_right _ _ numeral)) (fits (digits_value 10 text) less))
+    let less : digits_value 10 text < 2 ^ 32 = grind (arith, nat_tests) in (
+      less,
+      decimal-digits_value own text (digits_of text numeral) (numeral_long text numeral) (unled text ((and_both _ _ numeral).1))
+          (fits (digits_value 10 text) less),
+    )
 
 -- what is read as a number is its digits
 pub number_is : (text : List ℕ) (n : ℕ) → number_in text ≡ Some n → (n < 2 ^ 32) × (decimal n ≡ text)
 unfolding number_in
 number_is text n e = by_test (is_numeral text && ltb (digits_value 10 text) (2 ^ 32)) refl e
   where
-    by_test : (t : Bool) → (is_numeral text && ltb (digits_value 10 text) (2 ^ 32)) ≡ t → only_if t (digits_value 10 text) ≡ Some n → (n < 2 ^ 32) × (decimal n ≡ text)
+    by_test : (t : Bool) → (is_numeral text && ltb (digits_value 10 text) (2 ^ 32)) ≡ t → only_if t (digits_value 10 text) ≡ Some n → (n < 2 ^ 32)
+        × (decimal n ≡ text)
     by_test true t e =
         let same : digits_value 10 text ≡ n = cc in
         let P : ℕ → Type 0 = λ m. (m < 2 ^ 32) × (decimal m ≡ text) in
-        subst P same (value_is text (and_left (is_numeral text) _ t) (and_right (is_numeral text) _ t))
+        subst P same (value_is text ((and_both (is_numeral text) _ t).0) ((and_both (is_numeral text) _ t).1))
     by_test false t e = absurd (cc)

@@ -1,5 +1,6 @@
 -- What is read as a form is a line that the form spells.
-use Rattle.std.proofs.Common.{ℕ, ◌≡◌, Bool, true, false, List, [], ◌∷◌, ◌++◌, append_assoc, length, refl, arith, sym, ◌∙◌, ap, subst, Option, Some, None, eqb, cond}
+use Rattle.std.proofs.Common.{ℕ, ◌≡◌, Bool, true, false, List, [], ◌∷◌, ◌++◌, append_assoc, refl, sym, ◌∙◌, ap, subst, Option, Some}
+use Rattle.std.proofs.Common.{None, eqb, cond}
 use Rattle.std.specs.Prelude.{codes}
 use Rattle.std.specs.Fmt.{decimal}
 use Rattle.std.specs.Str.{IsUtf8, is_utf8, bytes_eq}
@@ -12,27 +13,17 @@ use Rattle.arbac_policy.specs.declared.act.ActKind.{ActKind}
 use Rattle.arbac_policy.specs.declared.act.ActKind.TheVariants.{Assign, Weak, Strong}
 use Rattle.policy_text.specs.declared.line.Keyword.{Keyword}
 use Rattle.policy_text.specs.declared.line.Keyword.TheVariants as k
-use Rattle.policy_text.specs.Lines.{cut}
-use Rattle.policy_text.specs.LineForms.{LineForm, NamedRange, a_role, an_edge, an_assign, a_revoke, a_user, an_act, a_goal, IsName, IsNamedRange, IsWellFormed, spell, spell_kind, spell_range, spell_names}
-use Rattle.policy_text.specs.Spelling.{◌>>=◌, only_if, name_in, text_in, number_in, opening_in, closed_by, or_open, closing_in, range_in, kind_in, role_in, edge_in, assign_in, revoke_in, user_in, words, in_first, names_behind, act_in, goal_in, keyword_in, form_with, form_by, form_of}
-use Rattle.policy_text.proofs.LineLemmas.{cut_joined}
-use Rattle.policy_text.proofs.WordLemmas.{name_is}
+use Rattle.cond_text.specs.Cuts.{cut, IsName, only_if, name_in}
+use Rattle.cond_text.specs.Ranges.{spell_range, range_in}
+use Rattle.policy_text.specs.LineForms.{LineForm, a_role, an_edge, an_assign, a_revoke, a_user, an_act, a_goal, IsWellFormed, spell, spell_kind, spell_names}
+use Rattle.policy_text.specs.Spelling.{text_in, number_in, kind_in, role_in, edge_in, assign_in, revoke_in, user_in, words, in_first, names_behind, act_in}
+use Rattle.policy_text.specs.Spelling.{goal_in, keyword_in, form_with, form_by, form_of}
+use Rattle.cond_text.proofs.CutLemmas.{step_of, only_is, cut_is}
+use Rattle.cond_text.proofs.NamedLemmas.{named}
 use Rattle.policy_text.proofs.NumberLemmas.{number_is}
-
--- a chain that comes to its end has come past each step
-step_of : {A B : Type 0} (o : Option A) (f : A → Option B) (y : B) → o >>= f ≡ Some y → (x : A) × (o ≡ Some x) × (f x ≡ Some y)
-step_of None f y e = absurd (cc)
-step_of (Some x) f y e = (x, refl, e)
-
-only_is : {A : Type 0} (t : Bool) (x y : A) → only_if t x ≡ Some y → (t ≡ true) × (x ≡ y)
-only_is true x y e = (refl, cc)
-only_is false x y e = absurd (cc)
-
-same_some : {A : Type 0} (x y : A) → Some x ≡ Some y → x ≡ y
-same_some x y e = cc
-
-named : (text name : List ℕ) → name_in text ≡ Some name → IsName name × (name ≡ text)
-named text name e = let n = name_is text name (sym e) in (subst IsName (sym n.1) n.0, n.1)
+use Rattle.cond_text.proofs.RangeLemmas.{ranged}
+use Rattle.list_words.proofs.EachLemmas.{each_append}
+use Rattle.list_words.proofs.GetLemmas.{same_some}
 
 a_text : (text found : List ℕ) → text_in text ≡ Some found → IsUtf8 found × (found ≡ text)
 unfolding text_in
@@ -41,76 +32,6 @@ a_text text found e = let o = only_is (is_utf8 text) text found e in (subst IsUt
 -- the form is one, and the line is its spelling
 abbrev Spells : List ℕ → LineForm → Type 0
 Spells line form = IsWellFormed form × (spell form ≡ line)
-
-cut_is : (sign : ℕ) (text : List ℕ) (p : List ℕ × List ℕ) → cut sign text ≡ Some p → p.0 ++ (sign ∷ p.1) ≡ text
-cut_is sign text p e = sym (cut_joined sign text p.0 p.1 e)
-
-start_is : (text : List ℕ) (p : Bool × List ℕ) → opening_in text ≡ Some p → (cond p.0 40 91) ∷ p.1 ≡ text
-unfolding opening_in
-start_is [] p e = absurd (cc)
-start_is (b ∷ bs) p e = by_square (eqb b 91) refl e
-  where
-    by_round : (t : Bool) → eqb b 40 ≡ t → cond t (Some (true, bs)) None ≡ Some p → (cond p.0 40 91) ∷ p.1 ≡ b ∷ bs
-    by_round true t e =
-        let same : (true, bs) ≡ p = cc in
-        let at : b ≡ 40 = eqb-true b 40 t in
-        let P : Bool × List ℕ → Type 0 = λ q. (cond q.0 40 91) ∷ q.1 ≡ b ∷ bs in
-        subst P same (ap (λ c. c ∷ bs) (sym at))
-    by_round false t e = absurd (cc)
-
-    by_square : (t : Bool) → eqb b 91 ≡ t → cond t (Some (false, bs)) (cond (eqb b 40) (Some (true, bs)) None) ≡ Some p → (cond p.0 40 91) ∷ p.1 ≡ b ∷ bs
-    by_square true t e =
-        let same : (false, bs) ≡ p = cc in
-        let at : b ≡ 91 = eqb-true b 91 t in
-        let P : Bool × List ℕ → Type 0 = λ q. (cond q.0 40 91) ∷ q.1 ≡ b ∷ bs in
-        subst P same (ap (λ c. c ∷ bs) (sym at))
-    by_square false t e = by_round (eqb b 40) refl e
-
-nothing_is : (xs : List ℕ) → eqb (length xs) 0 ≡ true → xs ≡ []
-nothing_is [] e = refl
-nothing_is (x ∷ xs) e = let none : length (x ∷ xs) ≡ 0 = eqb-true (length (x ∷ xs)) 0 e in absurd (omega arith)
-
-closed_is : (is_open : Bool) (sign : ℕ) (text : List ℕ) (p : List ℕ × Bool) → closed_by is_open (cut sign text) ≡ Some p → (p.0 ++ (sign ∷ []) ≡ text) × (p.1 ≡ is_open)
-closed_is is_open sign text p e = by_cut (cut sign text) refl e
-  where
-    by_cut : (o : Option (List ℕ × List ℕ)) → cut sign text ≡ o → closed_by is_open o ≡ Some p → (p.0 ++ (sign ∷ []) ≡ text) × (p.1 ≡ is_open)
-    by_cut None c e = absurd (cc)
-    by_cut (Some q) c e =
-        let o = only_is (eqb (length q.1) 0) (q.0, is_open) p e in
-        let whole : q.0 ++ (sign ∷ []) ≡ text = ap (λ t. q.0 ++ (sign ∷ t)) (sym (nothing_is q.1 o.0)) ∙ cut_is sign text q c in
-        let P : List ℕ × Bool → Type 0 = λ r. (r.0 ++ (sign ∷ []) ≡ text) × (r.1 ≡ is_open) in
-        subst P o.1 (whole, refl)
-
-end_is : (text : List ℕ) (p : List ℕ × Bool) → closing_in text ≡ Some p → p.0 ++ ((cond p.1 41 93) ∷ []) ≡ text
-unfolding closing_in
-end_is text p e = by_cut (cut 93 text) refl e
-  where
-    by_cut : (o : Option (List ℕ × List ℕ)) → cut 93 text ≡ o → or_open text o ≡ Some p → p.0 ++ ((cond p.1 41 93) ∷ []) ≡ text
-    by_cut None c e = let h = closed_is true 41 text p e in ap (λ t. p.0 ++ ((cond t 41 93) ∷ [])) h.1 ∙ h.0
-    by_cut (Some q) c e =
-        let h = closed_is false 93 text p (ap (closed_by false) c ∙ e) in
-        ap (λ t. p.0 ++ ((cond t 41 93) ∷ [])) h.1 ∙ h.0
-
-pub ranged : (text : List ℕ) (range : NamedRange) → range_in text ≡ Some range → IsNamedRange range × (spell_range range ≡ text)
-unfolding range_in
-ranged text range e =
-    let front = step_of (opening_in text) _ range e in
-    let ends = step_of (cut 44 front.0.1) _ range front.2 in
-    let low = step_of (name_in ends.0.0) _ range ends.2 in
-    let back = step_of (closing_in ends.0.1) _ range low.2 in
-    let high = step_of (name_in back.0.0) _ range back.2 in
-    let l = named ends.0.0 low.0 low.1 in
-    let h = named back.0.0 high.0 high.1 in
-    let made : NamedRange = record { low = low.0; high = high.0; low_open = front.0.0; high_open = back.0.1 } in
-    let same = same_some made range high.2 in
-    let P : NamedRange → Type 0 = λ r. IsNamedRange r × (spell_range r ≡ text) in
-    let spelled : spell_range made ≡ text =
-    ap (λ t. (cond front.0.0 40 91) ∷ (t ++ (44 ∷ (high.0 ++ ((cond back.0.1 41 93) ∷ []))))) l.1
-    ∙ ap (λ t. (cond front.0.0 40 91) ∷ (ends.0.0 ++ (44 ∷ (t ++ ((cond back.0.1 41 93) ∷ []))))) h.1
-    ∙ ap (λ t. (cond front.0.0 40 91) ∷ (ends.0.0 ++ (44 ∷ t))) (end_is ends.0.1 back.0 back.1)
-    ∙ ap (λ t. (cond front.0.0 40 91) ∷ t) (cut_is 44 front.0.1 ends.0 ends.1)
-    ∙ start_is text front.0 front.1 in
-    subst P same ((l.0, h.0), spelled)
 
 role_is : (rest : List ℕ) (form : LineForm) → role_in rest ≡ Some form → Spells (codes "role " ++ rest) form
 unfolding role_in spell
@@ -181,15 +102,13 @@ unfolding words
 words_spelled [] = refl
 words_spelled (b ∷ bs) = by_byte (eqb b 32) refl (words_spelled bs)
   where
-    by_byte : (t : Bool) → eqb b 32 ≡ t → spell_names (words bs) ≡ 32 ∷ bs → spell_names (cond t ([] ∷ words bs) (in_first b (words bs))) ≡ 32 ∷ (b ∷ bs)
+    by_byte : (t : Bool) → eqb b 32 ≡ t → spell_names (words bs) ≡ 32 ∷ bs
+        → spell_names (cond t ([] ∷ words bs) (in_first b (words bs))) ≡ 32 ∷ (b ∷ bs)
     by_byte true t tail = let at : b ≡ 32 = eqb-true b 32 t in ap (λ l. 32 ∷ l) (tail ∙ ap (λ c. c ∷ bs) (sym at))
     by_byte false t tail = in_first_spelled b (words bs) bs tail
 
-each_append : (xs ys : List (List ℕ)) → Each IsName xs → Each IsName ys → Each IsName (xs ++ ys)
-each_append [] ys h k = k
-each_append (x ∷ xs) ys h k = (h.0, each_append xs ys h.1 k)
-
-names_are : (before more names : List (List ℕ)) → names_behind before more ≡ Some names → Each IsName before → Each IsName names × (before ++ more ≡ names)
+names_are : (before more names : List (List ℕ)) → names_behind before more ≡ Some names → Each IsName before → Each IsName names
+    × (before ++ more ≡ names)
 unfolding names_behind
 names_are before [] names e h =
     let same : before ≡ names = cc in
@@ -199,10 +118,11 @@ names_are before [] names e h =
     append_nil [] = refl
     append_nil (x ∷ xs) = ap (λ t. x ∷ t) (append_nil xs)
 names_are before (word ∷ more) names e h =
-    by_name (is_name word) refl e (λ f t. names_are (before ++ word ∷ []) more names f (each_append before (word ∷ []) h (t, tt)))
+    by_name (is_name word) refl e (λ f t. names_are (before ++ word ∷ []) more names f (each_append IsName before (word ∷ []) h (t, tt)))
   where
     by_name : (t : Bool) → is_name word ≡ t → cond t (names_behind (before ++ word ∷ []) more) None ≡ Some names
-        → (names_behind (before ++ word ∷ []) more ≡ Some names → is_name word ≡ true → Each IsName names × ((before ++ word ∷ []) ++ more ≡ names)) → Each IsName names × (before ++ (word ∷ more) ≡ names)
+        → (names_behind (before ++ word ∷ []) more ≡ Some names → is_name word ≡ true → Each IsName names
+        × ((before ++ word ∷ []) ++ more ≡ names)) → Each IsName names × (before ++ (word ∷ more) ≡ names)
     by_name true t e later = let r = later e t in (r.0, sym (append_assoc before (word ∷ []) more) ∙ r.1)
     by_name false t e later = absurd (cc)
 
@@ -215,7 +135,8 @@ user_is rest form e =
     subst (Spells (codes "user " ++ rest)) same (n.0, ap (λ t. codes "user" ++ spell_names t) (sym n.1) ∙ ap (λ t. codes "user" ++ t) (words_spelled rest))
 
 -- a word is what is found by it
-pick : {K : Type 0} (word text : List ℕ) (a b : K) (o : Option K) (spelled : K → List ℕ) → spelled a ≡ text → cond (bytes_eq word text) (Some a) o ≡ Some b → (o ≡ Some b → word ≡ spelled b) → word ≡ spelled b
+pick : {K : Type 0} (word text : List ℕ) (a b : K) (o : Option K) (spelled : K → List ℕ) → spelled a ≡ text
+    → cond (bytes_eq word text) (Some a) o ≡ Some b → (o ≡ Some b → word ≡ spelled b) → word ≡ spelled b
 pick {K} word text a b o spelled is e later = by_test (bytes_eq word text) refl e
   where
     by_test : (t : Bool) → bytes_eq word text ≡ t → cond t (Some a) o ≡ Some b → word ≡ spelled b
@@ -285,7 +206,8 @@ keyword_is word keyword e =
     (λ e. pick word (codes "goal") k.Goal keyword _ keyword_text refl e (λ e. absurd (cc))))))))
 
 -- a line with a keyword
-with_keyword : (keyword : Keyword) (rest : List ℕ) (form : LineForm) → form_with (Some keyword) rest ≡ Some form → Spells (keyword_text keyword ++ (32 ∷ rest)) form
+with_keyword : (keyword : Keyword) (rest : List ℕ) (form : LineForm) → form_with (Some keyword) rest ≡ Some form
+    → Spells (keyword_text keyword ++ (32 ∷ rest)) form
 with_keyword k.Role rest form e = role_is rest form e
 with_keyword k.Edge rest form e = edge_is rest form e
 with_keyword k.Assign rest form e = assign_is rest form e
@@ -305,7 +227,8 @@ pub form_is : (line : List ℕ) (form : LineForm) → form_of line ≡ Some form
 unfolding form_of
 form_is line form e = by_cut (cut 32 line) refl e
   where
-    by_keyword : (word rest : List ℕ) (o : Option Keyword) → keyword_in word ≡ o → form_with o rest ≡ Some form → Spells (word ++ (32 ∷ rest)) form
+    by_keyword : (word rest : List ℕ) (o : Option Keyword) → keyword_in word ≡ o → form_with o rest ≡ Some form
+        → Spells (word ++ (32 ∷ rest)) form
     by_keyword word rest None f e = absurd (cc)
     by_keyword word rest (Some keyword) f e =
         let P : List ℕ → Type 0 = λ t. Spells (t ++ (32 ∷ rest)) form in

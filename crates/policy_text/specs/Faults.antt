@@ -1,9 +1,8 @@
 -- The first fault of a text that is no run text.
-use Rattle.std.specs.Prelude.{ℕ, ◌≡◌, ◌+◌, ◌⊎◌, true, false, List, [], ◌∷◌, length, None, codes, Result, Ok, Err}
+use Rattle.std.specs.Prelude.{ℕ, ◌≡◌, ◌+◌, ◌⊎◌, true, false, List, [], ◌∷◌, length, codes, Result, Ok, Err}
 use Rattle.role_order.specs.declared.order.OrderError.{OrderError}
 use Rattle.role_order.specs.declared.order.OrderError.TheVariants as refusals
 use Rattle.list_words.specs.Lists.{Some_of}
-use Rattle.role_order.specs.Names.{place_of}
 use Rattle.role_order.specs.Refusals.{IsOrder, IsRefused as IsRefusedOrder}
 use Rattle.cond_text.specs.declared.cond_error.CondError.{CondError}
 use Rattle.cond_text.specs.declared.cond_error.CondError.TheVariants as conditions
@@ -12,15 +11,9 @@ use Rattle.policy_text.specs.declared.run.Run.{Run}
 use Rattle.policy_text.specs.declared.run_error.RunError.{RunError}
 use Rattle.policy_text.specs.declared.run_error.RunError.TheVariants.{BadLine, UnknownRole, Order, Cond, TooMany, Unended, Memory}
 use Rattle.policy_text.specs.Lines.{split, is_order_line}
-use Rattle.policy_text.specs.LineForms.{LineForm, NamedRange, a_role, an_edge, an_assign, a_revoke, a_user, an_act, a_goal, IsWellFormed, spell}
+use Rattle.policy_text.specs.LineForms.{LineForm, a_role, an_edge, an_assign, a_revoke, a_user, an_act, a_goal, IsWellFormed, spell}
 use Rattle.policy_text.specs.Runs.{RunValue, behind_edges, MayStand, HasRoom, IsReadTo}
-
--- the name is that of no role
-abbrev pub IsUnknown : List (List ℕ) → List ℕ → Type 0
-IsUnknown names name = place_of names name ≡ None
-
-abbrev pub HasUnknownEnd : List (List ℕ) → NamedRange → Type 0
-HasUnknownEnd names range = IsUnknown names range.low ⊎ IsUnknown names range.high
+use Rattle.cond_text.specs.Named.{IsUnknown, HasUnknownEnd}
 
 -- the line has a name that is that of no role, outside its condition
 abbrev pub HasUnknown : List (List ℕ) → LineForm → Type 0
@@ -51,7 +44,8 @@ pub record IsPlaced (run : RunValue) (line : List ℕ) (form : LineForm) : Type 
 -- behind what the run says so far the line is at fault: it has no form or is out of place, and is no `end` behind a goal;
 -- or its kind is used up; or it has an unknown name; or its condition has a fault
 abbrev pub IsLineFault : RunValue → List ℕ → ℕ → RunError → Type 0
-IsLineFault run line number (BadLine at) = (at ≡ number) × ((form : LineForm) → ¬ IsPlaced run line form) × (line ≡ codes "end" → length run.goal ≡ 0)
+IsLineFault run line number (BadLine at) =
+    (at ≡ number) × ((form : LineForm) → ¬ IsPlaced run line form) × (line ≡ codes "end" → length run.goal ≡ 0)
 IsLineFault run line number (TooMany at) = (at ≡ number) × (form : LineForm) × IsPlaced run line form × (¬ HasRoom run form)
 IsLineFault run line number (UnknownRole at) = (at ≡ number) × (form : LineForm) × IsPlaced run line form × HasRoom run form × HasUnknown run.names form
 IsLineFault run line number (Cond at error) =

@@ -1,18 +1,12 @@
 -- The forms of the lines between the first line and the last, and how they are spelled.
-use Rattle.std.specs.Prelude.{ℕ, ◌≡◌, ◌<◌, ◌^◌, Bool, true, false, if◌then◌else◌, List, [], ◌∷◌, ◌++◌, codes}
+use Rattle.std.specs.Prelude.{ℕ, ◌<◌, ◌^◌, Bool, true, false, List, [], ◌∷◌, ◌++◌, codes}
 use Rattle.std.specs.Fmt.{decimal}
 use Rattle.std.specs.Str.{IsUtf8}
 use Rattle.list_words.specs.Lists.{Each}
-use Rattle.role_order.specs.Names.{is_name}
 use Rattle.arbac_policy.specs.declared.act.ActKind.{ActKind}
 use Rattle.arbac_policy.specs.declared.act.ActKind.TheVariants.{Assign, Weak, Strong}
-
--- a range whose ends are named
-pub record NamedRange : Type 0 where
-  pub low : List ℕ
-  pub high : List ℕ
-  pub low_open : Bool
-  pub high_open : Bool
+use Rattle.cond_text.specs.Cuts.{IsName}
+use Rattle.cond_text.specs.Ranges.{NamedRange, IsNamedRange, spell_range}
 
 -- a line as it is written: its names by their texts, and its condition by its text
 pub data LineForm : Type 0 where
@@ -23,12 +17,6 @@ pub data LineForm : Type 0 where
   a_user : List (List ℕ) → LineForm
   an_act : ActKind → ℕ → ℕ → List ℕ → LineForm
   a_goal : List ℕ → LineForm
-
-abbrev pub IsName : List ℕ → Type 0
-IsName text = is_name text ≡ true
-
-abbrev pub IsNamedRange : NamedRange → Type 0
-IsNamedRange range = IsName range.low × IsName range.high
 
 -- each name is a name, each number has 32 bits, and the condition is text
 abbrev pub IsWellFormed : LineForm → Type 0
@@ -60,28 +48,24 @@ condition_of (a_revoke admin range) = []
 condition_of (a_user names) = []
 condition_of (an_act kind admin target role) = []
 
+-- the word of an act's kind
 abbrev pub spell_kind : ActKind → List ℕ
 spell_kind Assign = codes "assign"
 spell_kind Weak = codes "weak"
 spell_kind Strong = codes "strong"
 
--- an open end has a round bracket
-abbrev pub spell_range : NamedRange → List ℕ
-spell_range range =
-    (if range.low_open then 40 else 91) ∷ (range.low ++ (44 ∷ (range.high ++ ((if range.high_open then 41 else 93) ∷ []))))
-
 -- a space before each name
 abbrev pub spell_names : List (List ℕ) → List ℕ
 spell_names [] = []
-spell_names (name ∷ names) = 32 ∷ (name ++ spell_names names)
+spell_names (name ∷ names) = codes " " ++ (name ++ spell_names names)
 
 -- the bytes of the line, without its line feed
 unfoldable pub spell : LineForm → List ℕ
 spell (a_role name) = codes "role " ++ name
-spell (an_edge senior junior) = codes "edge " ++ (senior ++ (32 ∷ junior))
-spell (an_assign admin range condition) = codes "assign " ++ (admin ++ (32 ∷ (spell_range range ++ (32 ∷ condition))))
-spell (a_revoke admin range) = codes "revoke " ++ (admin ++ (32 ∷ spell_range range))
+spell (an_edge senior junior) = codes "edge " ++ (senior ++ (codes " " ++ junior))
+spell (an_assign admin range condition) = codes "assign " ++ (admin ++ (codes " " ++ (spell_range range ++ (codes " " ++ condition))))
+spell (a_revoke admin range) = codes "revoke " ++ (admin ++ (codes " " ++ spell_range range))
 spell (a_user names) = codes "user" ++ spell_names names
 spell (an_act kind admin target role) =
-    codes "act " ++ (spell_kind kind ++ (32 ∷ (decimal admin ++ (32 ∷ (decimal target ++ (32 ∷ role))))))
+    codes "act " ++ (spell_kind kind ++ (codes " " ++ (decimal admin ++ (codes " " ++ (decimal target ++ (codes " " ++ role))))))
 spell (a_goal condition) = codes "goal " ++ condition

@@ -1,29 +1,21 @@
 -- What a run text stands for: a role order, rules for users, start sets, acts and goal conditions.
-use Rattle.std.specs.Prelude.{ℕ, ◌≡◌, ◌+◌, ◌<◌, ◌≤◌, List, [], ◌∷◌, ◌++◌, map, fold, length, Some, Result, Ok, Err, codes}
-use Rattle.role_order.specs.declared.range.Range.{Range}
+use Rattle.std.specs.Prelude.{ℕ, ◌≡◌, ◌+◌, ◌<◌, ◌≤◌, List, [], ◌∷◌, ◌++◌, map, length, Result, Ok, Err, codes}
 use Rattle.role_order.specs.declared.TheConstants.{MOST_ROLES}
 use Rattle.list_words.specs.Lists.{Each}
-use Rattle.role_order.specs.Names.{place_of}
-use Rattle.role_order.specs.Roles.{with_role}
 use Rattle.role_order.specs.Refusals.{IsOrder}
 use Rattle.arbac_policy.specs.declared.act.Act.{Act}
-use Rattle.arbac_policy.specs.declared.rule.CanAssign.{CanAssign}
 use Rattle.arbac_policy.specs.declared.rule.CanRevoke.{CanRevoke}
 use Rattle.arbac_policy.specs.Truth.{Term, term_of, IsKnown}
 use Rattle.arbac_policy.specs.Rules.{Rules}
-use Rattle.cond_text.specs.Reading.{StandsFor as Means, IsFaultless}
-use Rattle.policy_text.specs.declared.TheConstants.{MOST_EDGES, MOST_RULES, MOST_USERS, MOST_ACTS, MOST_GOALS}
+use Rattle.arbac_policy.specs.declared.TheConstants.{MOST_EDGES, MOST_RULES, MOST_GOALS}
+use Rattle.policy_text.specs.declared.TheConstants.{MOST_USERS, MOST_ACTS}
 use Rattle.policy_text.specs.declared.run.Run.{Run}
 use Rattle.policy_text.specs.declared.run_error.RunError.{RunError}
 use Rattle.policy_text.specs.declared.run_error.RunError.TheVariants.{Memory}
 use Rattle.policy_text.specs.Lines.{split}
-use Rattle.policy_text.specs.LineForms.{LineForm, NamedRange, a_role, an_edge, an_assign, a_revoke, a_user, an_act, a_goal, IsWellFormed, spell}
-
--- a rule of can_assign, its condition as plain data
-pub record AssignRule : Type 0 where
-  pub admin : ℕ
-  pub cond : Term
-  pub range : Range
+use Rattle.policy_text.specs.LineForms.{LineForm, a_role, an_edge, an_assign, a_revoke, a_user, an_act, a_goal, IsWellFormed, spell}
+use Rattle.arbac_policy.specs.PlainRules.{AssignRule, plain_rule}
+use Rattle.cond_text.specs.Named.{Names, NamesRange, ReadsAs, NamesSet}
 
 -- a run as plain data; also what the first lines of one say
 pub record RunValue : Type 0 where
@@ -34,9 +26,6 @@ pub record RunValue : Type 0 where
   pub start : List (List ℕ)
   pub acts : List Act
   pub goal : List Term
-
-abbrev pub plain_rule : CanAssign → AssignRule
-plain_rule rule = record { admin = rule.admin; cond = term_of rule.cond; range = rule.range }
 
 -- the run's parts
 abbrev pub plain_of : Run → RunValue
@@ -56,6 +45,7 @@ pub record IsForUsers (rules : Rules) : Type 0 where
   pub revokep : rules.revokep ≡ []
   pub exclusive : rules.exclusive ≡ []
 
+-- a run of which nothing is said yet
 abbrev pub nothing : RunValue
 nothing = record { names = []; edges = []; assign = []; revoke = []; start = []; acts = []; goal = [] }
 
@@ -63,18 +53,23 @@ nothing = record { names = []; edges = []; assign = []; revoke = []; start = [];
 abbrev pub behind_acts : RunValue → ℕ
 behind_acts run = length run.goal
 
+-- how many lines of later sections stand behind the users
 abbrev pub behind_users : RunValue → ℕ
 behind_users run = length run.acts + behind_acts run
 
+-- how many stand behind the rules that take roles
 abbrev pub behind_revokes : RunValue → ℕ
 behind_revokes run = length run.start + behind_users run
 
+-- how many stand behind the rules that give roles
 abbrev pub behind_assigns : RunValue → ℕ
 behind_assigns run = length run.revoke + behind_revokes run
 
+-- how many stand behind the edges
 abbrev pub behind_edges : RunValue → ℕ
 behind_edges run = length run.assign + behind_assigns run
 
+-- how many stand behind the roles
 abbrev pub behind_roles : RunValue → ℕ
 behind_roles run = length run.edges + behind_edges run
 
@@ -98,36 +93,6 @@ HasRoom run (a_user names) = length run.start < MOST_USERS
 HasRoom run (an_act kind admin target role) = length run.acts < MOST_ACTS
 HasRoom run (a_goal condition) = length run.goal < MOST_GOALS
 
--- the name is that of the role
-abbrev pub Names : List (List ℕ) → List ℕ → ℕ → Type 0
-Names names name role = place_of names name ≡ Some role
-
--- the names are those of the roles, one by one
-abbrev pub NameEach : List (List ℕ) → List (List ℕ) → List ℕ → Type 0
-NameEach names [] roles = roles ≡ []
-NameEach names (word ∷ words) roles = (role : ℕ) × (more : List ℕ) × Names names word role × NameEach names words more × (roles ≡ role ∷ more)
-
--- the ends name those of the range, and are open where those are
-pub record NamesRange (names : List (List ℕ)) (written : NamedRange) (range : Range) : Type 0 where
-  pub low : Names names written.low range.low
-  pub high : Names names written.high range.high
-  pub low_open : written.low_open ≡ range.low_open
-  pub high_open : written.high_open ≡ range.high_open
-
--- the text is a condition within the limits, and stands for the term
-abbrev pub ReadsAs : List (List ℕ) → List ℕ → Term → Type 0
-ReadsAs names text term = Means names text term × IsFaultless names text
-
--- the set of these roles
-abbrev pub set_of : List ℕ → List ℕ
-set_of roles = fold with_role [] roles
-
--- the names are those of the set's roles
-pub record NamesSet (names : List (List ℕ)) (words : List (List ℕ)) (set : List ℕ) : Type 0 where
-  pub roles : List ℕ
-  pub named : NameEach names words roles
-  pub set_is : set ≡ set_of roles
-
 -- with what the line says, the run becomes the next
 abbrev pub Extends : RunValue → LineForm → RunValue → Type 0
 Extends run (a_role name) next = next ≡ record run { names = run.names ++ name ∷ [] }
@@ -137,11 +102,13 @@ Extends run (an_assign admin range condition) next =
     (rule : AssignRule) × Names run.names admin rule.admin × NamesRange run.names range rule.range × ReadsAs run.names condition rule.cond
     × (next ≡ record run { assign = run.assign ++ rule ∷ [] })
 Extends run (a_revoke admin range) next =
-    (rule : CanRevoke) × Names run.names admin rule.admin × NamesRange run.names range rule.range × (next ≡ record run { revoke = run.revoke ++ rule ∷ [] })
+    (rule : CanRevoke) × Names run.names admin rule.admin × NamesRange run.names range rule.range
+    × (next ≡ record run { revoke = run.revoke ++ rule ∷ [] })
 Extends run (a_user names) next =
     (set : List ℕ) × NamesSet run.names names set × (next ≡ record run { start = run.start ++ set ∷ [] })
 Extends run (an_act kind admin target role) next =
-    (act : Act) × (act.kind ≡ kind) × (act.admin ≡ admin) × (act.target ≡ target) × Names run.names role act.role × (next ≡ record run { acts = run.acts ++ act ∷ [] })
+    (act : Act) × (act.kind ≡ kind) × (act.admin ≡ admin) × (act.target ≡ target) × Names run.names role act.role
+    × (next ≡ record run { acts = run.acts ++ act ∷ [] })
 Extends run (a_goal condition) next = (term : Term) × ReadsAs run.names condition term × (next ≡ record run { goal = run.goal ++ term ∷ [] })
 
 -- the line is right behind what the run says so far, and makes it the next

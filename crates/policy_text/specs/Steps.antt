@@ -14,7 +14,8 @@ use Rattle.policy_text.specs.declared.run_error.RunError.{RunError}
 use Rattle.policy_text.specs.declared.run_error.RunError.TheVariants.{BadLine, UnknownRole, Order, Cond, TooMany, Unended, Memory}
 use Rattle.policy_text.specs.Lines.{split}
 use Rattle.policy_text.specs.LineForms.{LineForm, IsWellFormed, spell}
-use Rattle.policy_text.specs.Runs.{RunValue, nothing, plain_rule, MayStand, HasRoom, Adds, AddAll}
+use Rattle.arbac_policy.specs.PlainRules.{plain_rule}
+use Rattle.policy_text.specs.Runs.{RunValue, nothing, MayStand, HasRoom, Adds, AddAll}
 use Rattle.policy_text.specs.Faults.{HasUnknown, HasCondFault, IsLineFault, IsPastOrder}
 
 -- what the lines of the role order say
@@ -46,7 +47,8 @@ abbrev pub IsFormFault : RunValue → LineForm → ℕ → RunError → Type 0
 IsFormFault run form number (BadLine at) = (at ≡ number) × (¬ MayStand run form)
 IsFormFault run form number (TooMany at) = (at ≡ number) × MayStand run form × (¬ HasRoom run form)
 IsFormFault run form number (UnknownRole at) = (at ≡ number) × MayStand run form × HasRoom run form × HasUnknown run.names form
-IsFormFault run form number (Cond at error) = (at ≡ number) × MayStand run form × HasRoom run form × (¬ HasUnknown run.names form) × HasCondFault run.names form error
+IsFormFault run form number (Cond at error) =
+    (at ≡ number) × MayStand run form × HasRoom run form × (¬ HasUnknown run.names form) × HasCondFault run.names form error
 IsFormFault run form number (Order error) = ⊥
 IsFormFault run form number Unended = ⊥
 IsFormFault run form number Memory = Unit {0}

@@ -1,13 +1,11 @@
 -- What the code's types are seen as.
 use Rattle.std.specs.Prelude.{map}
-use Rattle.policy_text.specs.declared.line.NamedRange as c
 use Rattle.policy_text.specs.declared.line.Line.{Line}
 use Rattle.policy_text.specs.declared.line.Line.TheVariants as v
-use Rattle.policy_text.specs.LineForms.{LineForm, NamedRange, a_role, an_edge, an_assign, a_revoke, a_user, an_act, a_goal}
+use Rattle.cond_text.specs.Ranges.{range_view}
+use Rattle.policy_text.specs.LineForms.{LineForm, a_role, an_edge, an_assign, a_revoke, a_user, an_act, a_goal}
 
-abbrev pub range_view : c.NamedRange → NamedRange
-range_view r = record { low = r.low.now; high = r.high.now; low_open = r.low_open; high_open = r.high_open }
-
+-- the form of a line as the code has it
 abbrev pub form_of_line : Line → LineForm
 form_of_line (v.Role name) = a_role name.now
 form_of_line (v.Edge senior junior) = an_edge senior.now junior.now

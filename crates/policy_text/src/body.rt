@@ -1,23 +1,26 @@
 //! The lines of a run text behind those of the role order.
 
-ghost use Rattle.std.specs.Prelude.{ℕ, ◌≡◌, ◌<◌, ◌≤◌, ◌^◌, ◌↔◌, ◌+◌, ◌&&◌, ◌==◌, not, true, codes, IsTrue, length, map, IfOk, IfErr, IfSome, IfNone, OnOk};
+ghost use Rattle.std.specs.Prelude.{ℕ, ◌≡◌, ◌<◌, ◌≤◌, ◌^◌, ◌↔◌, ◌+◌, ◌&&◌, ◌==◌, not, true, codes, IsTrue, length};
+ghost use Rattle.std.specs.Prelude.{map, IfOk, IfErr, IfSome, IfNone, OnOk};
 ghost use Rattle.std.specs.Str.{bytes_eq};
 ghost use Rattle.arbac_policy.specs.Truth.{term_of};
-ghost use Rattle.policy_text.specs.Views.{range_view, form_of_line};
+ghost use Rattle.cond_text.specs.Ranges.{range_view};
+ghost use Rattle.policy_text.specs.Views.{form_of_line};
 ghost use Rattle.policy_text.specs.Lines.{split, is_order_line};
 ghost use Rattle.policy_text.specs.LineForms.{an_assign, a_revoke, a_user, an_act, a_goal, tells_order, condition_of};
-ghost use Rattle.policy_text.specs.Runs.{Adds, ReadsAs, NamesRange, NamesSet, behind_edges, behind_assigns, behind_revokes, behind_users, behind_acts};
-ghost use Rattle.policy_text.specs.Faults.{HasUnknownEnd, IsUnknown, IsLineFault, EndsOrder};
+ghost use Rattle.cond_text.specs.Named.{ReadsAs, NamesRange, NamesSet, HasUnknownEnd, IsUnknown};
+ghost use Rattle.policy_text.specs.Runs.{Adds, behind_edges, behind_assigns, behind_revokes, behind_users, behind_acts};
+ghost use Rattle.policy_text.specs.Faults.{IsLineFault, EndsOrder};
 ghost use Rattle.policy_text.specs.Steps.{body_view, run_view, order_view, IsFormFault, IsTextFault, AddsLine, EndsWith, IsBodyFault};
 ghost use Rattle.list_words.specs.Lists.{Some_of};
 ghost use Rattle.role_order.specs.Refusals.{IsOrder};
 
-use crate::line::{Line, NamedRange, read_line};
-use crate::lines::{cut, is};
+use crate::line::{Line, read_line};
+use crate::lines::is;
 use crate::run_error::RunError;
-use crate::{MOST_ACTS, MOST_GOALS, MOST_RULES, MOST_USERS};
-use arbac_policy::{Act, ActKind, CanAssign, CanRevoke, Cond};
-use cond_text::{CondError, parse_cond};
+use crate::{MOST_ACTS, MOST_USERS};
+use arbac_policy::{Act, ActKind, CanAssign, CanRevoke, Cond, MOST_GOALS, MOST_RULES};
+use cond_text::{CondError, NamedRange, cut, parse_cond};
 use role_order::{Order, Range, RoleSet};
 use std::alloc::Global;
 

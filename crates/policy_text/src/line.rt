@@ -4,23 +4,17 @@ ghost use Rattle.std.specs.Prelude.{ℕ, ◌≡◌, ◌<◌, ◌^◌, [], IfOk, 
 ghost use Rattle.std.specs.Char.{is_ascii_digit};
 ghost use Rattle.std.specs.List.{list_all};
 ghost use Rattle.std.specs.Option.{option_map};
-ghost use Rattle.policy_text.specs.LineForms.{NamedRange as Named, IsNamedRange, spell_range};
-ghost use Rattle.policy_text.specs.Spelling.{name_in, text_in, is_numeral as numeral, number_in, opening_in, closing_in, closed_by, range_in, kind_in, role_in, edge_in, assign_in, revoke_in, user_in, names_behind, words, act_in, goal_in, keyword_in, form_of};
-ghost use Rattle.policy_text.specs.Views.{range_view, form_of_line};
+ghost use Rattle.cond_text.specs.Ranges.{range_in, range_view};
+ghost use Rattle.cond_text.specs.Cuts.{name_in};
+ghost use Rattle.policy_text.specs.Spelling as spelling;
+ghost use Rattle.policy_text.specs.Spelling.{text_in, number_in, kind_in, role_in, edge_in, assign_in, revoke_in, user_in, names_behind, words, act_in};
+ghost use Rattle.policy_text.specs.Spelling.{goal_in, keyword_in, form_of};
+ghost use Rattle.policy_text.specs.Views.{form_of_line};
 
-use crate::lines::{cut, is};
+use crate::lines::is;
 use arbac_policy::ActKind;
-use role_order::is_name;
+use cond_text::{NamedRange, cut, name_of, range_of};
 use std::alloc::{AllocError, Global};
-
-/// A range whose ends are named.
-#[derive(Clone, Copy)]
-pub struct NamedRange<'a> {
-    pub low: &'a str,
-    pub high: &'a str,
-    pub low_open: bool,
-    pub high_open: bool,
-}
 
 /// A line as it is written.
 #[derive(Drop)]
@@ -61,17 +55,6 @@ pub enum Keyword {
     Goal,
 }
 
-/// The bytes as a name, if they are one.
-#[tactic(auto, using(crate::proofs::WordLemmas::name_given, crate::proofs::WordLemmas::name_refused, crate::proofs::WordLemmas::name_unread))]
-fn name_of(bytes: &[u8]) -> Option<&str>
-    ensures { option_map (λ text. text.now) result ≡ name_in bytes.now }
-{
-    match str::from_utf8(bytes) {
-        Ok(text) => if is_name(text) { Some(text) } else { None },
-        Err(_) => None,
-    }
-}
-
 /// The bytes as text, if they are UTF-8.
 #[tactic(auto, using(crate::proofs::WordLemmas::text_given, crate::proofs::WordLemmas::text_refused))]
 fn text_of(bytes: &[u8]) -> Option<&str>
@@ -92,7 +75,7 @@ fn are_digits(bytes: &[u8]) -> bool
 /// Whether the bytes are decimal digits without a leading zero.
 #[tactic(auto, unfolding(crate::specs::Spelling::is_numeral))]
 fn is_numeral(bytes: &[u8]) -> bool
-    ensures { result ≡ numeral bytes.now }
+    ensures { result ≡ spelling.is_numeral bytes.now }
 {
     are_digits(bytes) && !bytes.is_empty() && (bytes[0] != b'0' || bytes.len() == 1)
 }
@@ -109,70 +92,6 @@ fn number_of(bytes: &[u8]) -> Option<u32>
         Ok(text) => text.parse::<u32>().ok(),
         Err(_) => None,
     }
-}
-
-/// Whether the range's low end is open, and what stands behind its bracket.
-#[tactic(auto, unfolding(crate::specs::Spelling::opening_in))]
-fn opening_of(text: &[u8]) -> Option<(bool, &[u8])>
-    ensures { option_map (λ p. (p.0, p.1.now)) result ≡ opening_in text.now }
-{
-    match text {
-        [] => None,
-        [b'[', rest @ ..] => Some((false, rest)),
-        [b'(', rest @ ..] => Some((true, rest)),
-        [_, ..] => None,
-    }
-}
-
-fn closed_end<'a>(is_open: bool, found: Option<(&'a [u8], &'a [u8])>) -> Option<(&'a [u8], bool)>
-    ensures { option_map (λ p. (p.0.now, p.1)) result ≡ closed_by is_open (option_map (λ p. (p.0.now, p.1.now)) found.entry) }
-{
-    match found {
-        Some((name, rest)) => if rest.is_empty() {
-            Some((name, is_open))
-        } else {
-            None
-        },
-        None => None,
-    }
-}
-
-/// The range's high end, and whether it is open.
-#[tactic(auto, unfolding(crate::specs::Spelling::closing_in))]
-fn closing_of(text: &[u8]) -> Option<(&[u8], bool)>
-    ensures { option_map (λ p. (p.0.now, p.1)) result ≡ closing_in text.now }
-{
-    match cut(text, b']') {
-        Some(found) => closed_end(false, Some(found)),
-        None => closed_end(true, cut(text, b')')),
-    }
-}
-
-#[tactic(auto, unfolding(crate::specs::Spelling::range_in))]
-fn range_of(text: &[u8]) -> Option<NamedRange>
-    ensures { option_map range_view result ≡ range_in text.now }
-{
-    let (low_open, rest) = opening_of(text)?;
-    let (low, rest) = cut(rest, b',')?;
-    let low = name_of(low)?;
-    let (high, high_open) = closing_of(rest)?;
-    let high = name_of(high)?;
-    Some(NamedRange {
-        low,
-        high,
-        low_open,
-        high_open,
-    })
-}
-
-/// The range between two names that the text is. None exactly where it is no such range.
-pub fn read_range(text: &str) -> Option<NamedRange>
-    ensures found { IfSome result (λ range. IsNamedRange (range_view range)
-        × (spell_range (range_view range) ≡ text.now)) }
-    ensures none { IfNone result ((range : Named) → IsNamedRange range
-        → ¬ (spell_range range ≡ text.now)) }
-{
-    range_of(text.as_bytes())
 }
 
 #[tactic(auto, unfolding(crate::specs::Spelling::kind_in))]
@@ -262,7 +181,7 @@ fn goal_line(rest: &[u8]) -> Option<Line>
 }
 
 /// The names between single spaces, if each is one.
-#[tactic(auto, using(crate::proofs::WordLemmas::names_more, crate::proofs::WordLemmas::names_stop, crate::proofs::WordLemmas::names_last, crate::proofs::WordLemmas::names_no_last, crate::proofs::LineLemmas::cut_shorter))]
+#[tactic(auto, using(crate::proofs::WordLemmas::names_more, crate::proofs::WordLemmas::names_stop, crate::proofs::WordLemmas::names_last, crate::proofs::WordLemmas::names_no_last, cond_text::proofs::CutLemmas::cut_shorter))]
 fn names_of<'a>(alloc: Global, text: &'a [u8]) -> Result<Option<Vec<&'a str>>, AllocError>
     ensures { IfOk result (λ o. option_map (λ v. map (λ name. name.now) v.items) o ≡ names_behind [] (words text.now)) }
 {

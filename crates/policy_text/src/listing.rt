@@ -1,18 +1,22 @@
 //! The lines of a run text that tell the role order.
 
-ghost use Rattle.std.specs.Prelude.{ℕ, ◌≡◌, ◌<◌, ◌≤◌, ◌+◌, ◌^◌, true, false, Some, length, vec_len, IfOk, IfErr, IfSome, IfNone, OnOk};
+ghost use Rattle.std.specs.Prelude.{ℕ, ◌≡◌, ◌<◌, ◌≤◌, ◌+◌, ◌^◌, true, false, Some, length, vec_len, IfOk, IfErr, IfSome, IfNone};
+ghost use Rattle.std.specs.Prelude.{OnOk};
 ghost use Rattle.role_order.specs.Names.{texts};
-ghost use Rattle.policy_text.specs.Lines.{cut as cut_at, split, is_order_line as is_of_order};
+ghost use Rattle.cond_text.specs.Cuts as cuts;
+ghost use Rattle.policy_text.specs.Lines as lines;
+ghost use Rattle.policy_text.specs.Lines.{split};
 ghost use Rattle.policy_text.specs.LineForms.{a_role, an_edge, tells_order};
 ghost use Rattle.policy_text.specs.Views.{form_of_line};
 ghost use Rattle.policy_text.specs.Runs.{nothing, Adds};
 ghost use Rattle.policy_text.specs.Faults.{IsLineFault, EndsOrder};
 ghost use Rattle.policy_text.specs.Steps.{listing_view, IsFormFault, AddsLine, Passes, StopsAt, Told};
 
-use crate::MOST_EDGES;
 use crate::line::{Line, read_line};
-use crate::lines::{cut, is_order_line};
+use crate::lines::is_order_line;
 use crate::run_error::RunError;
+use arbac_policy::MOST_EDGES;
+use cond_text::cut;
 use role_order::{MOST_ROLES, place_in};
 use std::alloc::Global;
 
@@ -81,7 +85,7 @@ impl Listing {
     /// Adds what a line says whose first word is `role` or `edge`.
     fn add_line(&mut self, alloc: Global, line: &[u8], number: u32) -> Result<(), RunError>
         requires few { length (texts self.old.names.items) ≤ MOST_ROLES }
-        requires kind { is_of_order line.now ≡ true }
+        requires kind { lines.is_order_line line.now ≡ true }
         ensures added { OnOk result (AddsLine (listing_view self.old) line.now (listing_view self.new)) }
         ensures fault { IfErr result (IsLineFault (listing_view self.old) line.now number) }
     {
@@ -94,7 +98,7 @@ impl Listing {
 
 /// The next whole line, if its first word is `role` or `edge`, and the bytes behind its line feed.
 fn next_line(bytes: &[u8]) -> Option<(&[u8], &[u8])>
-    ensures found { IfSome result (λ p. (cut_at 10 bytes.now ≡ Some (p.0.now, p.1.now)) × (is_of_order p.0.now ≡ true)) }
+    ensures found { IfSome result (λ p. (cuts.cut 10 bytes.now ≡ Some (p.0.now, p.1.now)) × (lines.is_order_line p.0.now ≡ true)) }
     ensures none { IfNone result (EndsOrder (split bytes.now).0) }
 {
     match cut(bytes, b'\n') {

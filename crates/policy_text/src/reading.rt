@@ -3,7 +3,8 @@
 ghost use Rattle.std.specs.Prelude.{ℕ, ◌≡◌, ◌<◌, ◌≤◌, ◌+◌, ◌^◌, [], List, length, vec_len, IfOk, IfErr};
 ghost use Rattle.role_order.specs.Names.{texts};
 ghost use Rattle.role_order.specs.Refusals.{IsOrder};
-ghost use Rattle.arbac_policy.specs.Rules.{IsPolicy, AreCountable, policy_of as rules_of};
+ghost use Rattle.arbac_policy.specs.Rules as rules;
+ghost use Rattle.arbac_policy.specs.Rules.{IsPolicy, AreCountable};
 ghost use Rattle.policy_text.specs.declared.run_error.RunError.{RunError};
 ghost use Rattle.policy_text.specs.Limits.{AreLimits};
 ghost use Rattle.policy_text.specs.Runs.{RunValue, StandsFor, Reads, plain_of, IsForUsers, KeepsLimits, AreKnownGoals};
@@ -11,11 +12,12 @@ ghost use Rattle.policy_text.specs.Faults.{IsFirstFault, IsRefused, Tells};
 ghost use Rattle.policy_text.specs.Steps.{IsOrderTold, run_view};
 
 use crate::body::{Body, read_body};
-use crate::lines::{cut, is};
+use crate::lines::is;
 use crate::listing::{Listed, Listing, read_listing};
 use crate::run::Run;
 use crate::run_error::RunError;
 use arbac_policy::{CanAssign, CanRevoke, Policy};
+use cond_text::cut;
 use role_order::{Order, OrderError};
 use std::alloc::Global;
 
@@ -38,9 +40,9 @@ fn order_of(alloc: Global, listing: Listing) -> Result<Order, RunError>
 
 /// The policy of these rules for users, without rules for permissions and without exclusive pairs.
 fn policy_of(alloc: Global, order: Order, assign: Vec<CanAssign>, revoke: Vec<CanRevoke>) -> Policy
-    requires known { IsPolicy (rules_of order assign.items revoke.items [] [] []) }
-    requires few { AreCountable (rules_of order assign.items revoke.items [] [] []) }
-    ensures { result ≡ rules_of order assign.items revoke.items [] [] [] }
+    requires known { IsPolicy (rules.policy_of order assign.items revoke.items [] [] []) }
+    requires few { AreCountable (rules.policy_of order assign.items revoke.items [] [] []) }
+    ensures { result ≡ rules.policy_of order assign.items revoke.items [] [] [] }
 {
     let policy = Policy::new(
         order,
@@ -57,10 +59,10 @@ fn policy_of(alloc: Global, order: Order, assign: Vec<CanAssign>, revoke: Vec<Ca
 }
 
 fn run_of(alloc: Global, order: Order, body: Body) -> Run
-    requires known { IsPolicy (rules_of order body.assign.items body.revoke.items [] [] []) }
-    requires few { AreCountable (rules_of order body.assign.items body.revoke.items [] [] []) }
+    requires known { IsPolicy (rules.policy_of order body.assign.items body.revoke.items [] [] []) }
+    requires few { AreCountable (rules.policy_of order body.assign.items body.revoke.items [] [] []) }
     ensures run { plain_of result ≡ run_view order body }
-    ensures rules { result.policy ≡ rules_of order body.assign.items body.revoke.items [] [] [] }
+    ensures rules { result.policy ≡ rules.policy_of order body.assign.items body.revoke.items [] [] [] }
 {
     let Body {
         assign,

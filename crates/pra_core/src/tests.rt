@@ -1,4 +1,4 @@
-//! Verdicts on acts on permissions.
+//! Verdicts on acts on permissions: where they differ from those on users.
 use crate::decide_perm;
 use arbac_policy::ActKind::{Assign, Strong, Weak};
 use arbac_policy::{Act, ActKind, CanAssign, CanRevoke, Cond, Policy};
@@ -8,84 +8,21 @@ use std::process::Abort;
 use std::test::Fail;
 use ura_core::{Part, Side, Verdict};
 
-/// An act, the target's new set, and the part that fails, if there is one.
-type Row = (ActKind, u32, u32, u16, &'static [u16], Option<Part>);
+/// An act's kind, administrator, target and role, and the target's new set.
+type Granted = (ActKind, u32, u32, u16, &'static [u16]);
+
+/// The same of an act, and the part that fails.
+type Denied = (ActKind, u32, u32, u16, Part);
 
 const NAMES: [&str; 5] = ["PSO1", "PL1", "PE1", "E1", "ED"];
 
 const EDGES: [(u16, u16); 3] = [(1, 2), (2, 3), (3, 4)];
 
-const USERS: [&[u16]; 2] = [&[0], &[1]];
+const USERS: [&[u16]; 3] = [&[0], &[1], &[]];
 
-const PERMISSIONS: [&[u16]; 4] = [&[], &[2, 3], &[3], &[2, 4]];
+const PERMISSIONS: [&[u16]; 7] = [&[], &[1, 2, 3], &[3], &[4], &[1], &[3, 4], &[0, 2, 3]];
 
-const ROWS: [Row; 10] = [
-    (ActKind::Assign, 0, 2, 2, &[2, 3], None),
-    (
-        ActKind::Assign,
-        0,
-        0,
-        2,
-        &[],
-        Some(Part::NoCondition { role: 2, rule: 0 }),
-    ),
-    (
-        ActKind::Assign,
-        1,
-        2,
-        2,
-        &[],
-        Some(Part::NoAdmin { role: 2, rule: 0 }),
-    ),
-    (
-        ActKind::Assign,
-        0,
-        2,
-        4,
-        &[],
-        Some(Part::NoRange { role: 4 }),
-    ),
-    (
-        ActKind::Assign,
-        2,
-        2,
-        2,
-        &[],
-        Some(Part::NoUser {
-            side: Side::Admin,
-            place: 2,
-        }),
-    ),
-    (
-        ActKind::Assign,
-        0,
-        4,
-        2,
-        &[],
-        Some(Part::NoUser {
-            side: Side::Target,
-            place: 4,
-        }),
-    ),
-    (ActKind::Weak, 0, 1, 2, &[3], None),
-    (ActKind::Strong, 0, 1, 2, &[], None),
-    (ActKind::Strong, 0, 1, 3, &[2], None),
-    (
-        ActKind::Strong,
-        0,
-        3,
-        2,
-        &[],
-        Some(Part::NoRange { role: 4 }),
-    ),
-];
-
-const SEVERAL_USERS: [&[u16]; 3] = [&[0], &[1], &[]];
-
-const SEVERAL_PERMISSIONS: [&[u16]; 6] = [&[], &[1, 2, 3], &[3], &[4], &[1], &[3, 4]];
-
-/// Where several rules fit: an act, and the target's new set.
-const SEVERAL_GRANTED: [(ActKind, u32, u32, u16, &[u16]); 8] = [
+const GRANTED: [Granted; 9] = [
     // A role satisfies the roles above it, and none below it.
     (Assign, 1, 3, 2, &[2, 4]),
     (Assign, 1, 4, 3, &[1, 3]),
@@ -97,17 +34,28 @@ const SEVERAL_GRANTED: [(ActKind, u32, u32, u16, &[u16]); 8] = [
     (Strong, 0, 5, 3, &[]),
     // A permission at the administrator's own place loses his administrative role, and he keeps it.
     (Strong, 1, 1, 1, &[]),
+    (Strong, 0, 6, 2, &[0]),
 ];
 
-/// An act, and the part that fails.
-const SEVERAL_DENIED: [(ActKind, u32, u32, u16, Part); 8] = [
-    (Assign, 2, 3, 2, Part::NoAdmin { role: 2, rule: 0 }),
+/// A place of a permission that no user has.
+const NO_ADMIN: Part = Part::NoUser {
+    side: Side::Admin,
+    place: 3,
+};
+
+const NO_TARGET: Part = Part::NoUser {
+    side: Side::Target,
+    place: 7,
+};
+
+const DENIED: [Denied; 8] = [
+    (Assign, 3, 3, 2, NO_ADMIN),
+    (Assign, 0, 7, 2, NO_TARGET),
     // The administrator fits the last two rules, the last, or the first.
     (Assign, 1, 2, 2, Part::NoCondition { role: 2, rule: 1 }),
     (Assign, 1, 3, 3, Part::NoCondition { role: 3, rule: 2 }),
     (Assign, 0, 0, 3, Part::NoCondition { role: 3, rule: 0 }),
     (Assign, 0, 4, 2, Part::NoCondition { role: 2, rule: 0 }),
-    (Weak, 2, 5, 3, Part::NoAdmin { role: 3, rule: 0 }),
     // The lesser number is taken away, and the greater one refused; or both are refused.
     (Strong, 1, 5, 3, Part::NoAdmin { role: 4, rule: 0 }),
     (Strong, 2, 5, 3, Part::NoAdmin { role: 3, rule: 0 }),
@@ -116,31 +64,14 @@ const SEVERAL_DENIED: [(ActKind, u32, u32, u16, Part); 8] = [
 fn department(rt: &impl Abort, alloc: Global) -> Result<Order, Fail> {
     let mut names = Vec::new(alloc);
     for name in NAMES {
-        names.push(format!(in alloc; "{name}")?)?;
+        names.push(String::from_str(alloc, name)?)?;
     }
-    let mut edges = Vec::new(alloc);
-    for edge in EDGES {
-        edges.push(edge)?;
-    }
+    let edges = Vec::from_slice(alloc, &EDGES)?;
     assert!(rt; names.len() < 1_000 && edges.len() < 1_000);
     Ok(Order::new(alloc, names, edges)?)
 }
 
-/// PSO1 gives and takes E1 up to below PL1; what is given must satisfy PE1. PE1 excludes E1.
-fn policy(rt: &impl Abort, alloc: Global) -> Result<Policy, Fail> {
-    let assignp = gives(0, Cond::Has(2), range(3, 1, true));
-    let revokep = takes(0, range(3, 1, true));
-    let policy = Policy::new(
-        department(rt, alloc)?,
-        Vec::new(alloc),
-        Vec::new(alloc),
-        vec![in alloc; assignp]?,
-        vec![in alloc; revokep]?,
-        vec![in alloc; (2, 3)]?,
-    );
-    Ok(policy.ok_or("no policy")?)
-}
-
+/// From the first role up to the second, or to below it.
 fn range(low: u16, high: u16, high_open: bool) -> Range {
     Range {
         low,
@@ -159,7 +90,7 @@ fn takes(admin: u16, range: Range) -> CanRevoke {
 }
 
 /// Three rules give PE1, and two of them E1; two take E1; E1 excludes PE1 and ED.
-fn policy_of_several(rt: &impl Abort, alloc: Global) -> Result<Policy, Fail> {
+fn policy(rt: &impl Abort, alloc: Global) -> Result<Policy, Fail> {
     let given = range(3, 1, true);
     let policy = Policy::new(
         department(rt, alloc)?,
@@ -193,75 +124,45 @@ fn sets_of(rt: &impl Abort, alloc: Global, rows: &[&[u16]]) -> Result<Vec<RoleSe
     Ok(sets)
 }
 
+fn act_of(kind: ActKind, admin: u32, target: u32, role: u16) -> Act {
+    Act {
+        kind,
+        admin,
+        target,
+        role,
+    }
+}
+
 fn are_equal(set: &RoleSet, other: &RoleSet) -> bool {
     set.within(other) && other.within(set)
 }
 
-fn assert_verdict(
-    rt: &impl Abort,
-    verdict: Verdict,
-    roles: &[u16],
-    fails: Option<Part>,
-    at: usize,
-) {
-    match verdict {
-        Verdict::Granted(set) => {
-            assert_eq!(rt; fails, None, "granted at {at}");
-            assert!(rt; are_equal(&set, &set_of(rt, roles)), "another set at {at}");
-        }
-        Verdict::Denied(part) => assert_eq!(rt; Some(part), fails, "at {at}"),
-    }
-}
-
 #[test]
-fn acts_on_permissions_are_judged_by_the_first_part_that_fails(
+fn acts_on_permissions_are_judged_by_the_dual_of_those_on_users(
     rt: HostRuntime,
 ) -> Result<(), Fail> {
     let alloc = rt.alloc();
     let policy = policy(&rt, alloc)?;
     let users = sets_of(&rt, alloc, &USERS)?;
     let permissions = sets_of(&rt, alloc, &PERMISSIONS)?;
-    for (at, row) in ROWS.iter().enumerate() {
-        let (kind, admin, target, role, roles, fails) = *row;
-        let act = Act {
-            kind,
-            admin,
-            target,
-            role,
-        };
-        let verdict = decide_perm(&policy, &users, &permissions, &act);
-        assert_verdict(&rt, verdict, roles, fails, at);
+    for (kind, admin, target, role, roles) in GRANTED {
+        let act = act_of(kind, admin, target, role);
+        match decide_perm(&policy, &users, &permissions, &act) {
+            Verdict::Granted(set) => {
+                assert!(rt;
+                    are_equal(&set, &set_of(&rt, roles)),
+                    "another set: {act:?}"
+                );
+            }
+            Verdict::Denied(part) => panic!(rt; "{act:?} is denied: {part:?}"),
+        }
     }
-    Ok(())
-}
-
-#[test]
-fn of_several_rules_the_first_is_told_and_no_pair_counts(rt: HostRuntime) -> Result<(), Fail> {
-    let alloc = rt.alloc();
-    let policy = policy_of_several(&rt, alloc)?;
-    let users = sets_of(&rt, alloc, &SEVERAL_USERS)?;
-    let permissions = sets_of(&rt, alloc, &SEVERAL_PERMISSIONS)?;
-    for (at, row) in SEVERAL_GRANTED.iter().enumerate() {
-        let (kind, admin, target, role, roles) = *row;
-        let act = Act {
-            kind,
-            admin,
-            target,
-            role,
-        };
-        let verdict = decide_perm(&policy, &users, &permissions, &act);
-        assert_verdict(&rt, verdict, roles, None, at);
-    }
-    for (at, row) in SEVERAL_DENIED.iter().enumerate() {
-        let (kind, admin, target, role, part) = *row;
-        let act = Act {
-            kind,
-            admin,
-            target,
-            role,
-        };
-        let verdict = decide_perm(&policy, &users, &permissions, &act);
-        assert_verdict(&rt, verdict, &[], Some(part), at);
+    for (kind, admin, target, role, fails) in DENIED {
+        let act = act_of(kind, admin, target, role);
+        match decide_perm(&policy, &users, &permissions, &act) {
+            Verdict::Granted(_) => panic!(rt; "{act:?} is granted"),
+            Verdict::Denied(part) => assert_eq!(rt; part, fails, "{act:?}"),
+        }
     }
     Ok(())
 }

@@ -1,5 +1,6 @@
 -- What a read of a record takes of a text, and that the records read in turn are the text's.
-use Rattle.std.proofs.Common.{refl, ap, sym, ◌≡◌, ◌∙◌, ◌<◌, ◌≤◌, ◌+◌, arith, ℕ, zero, suc, Bool, true, false, cond, ◌==◌, ◌&&◌, List, [], ◌∷◌, ◌++◌, length, Option, Some, None, length-append}
+use Rattle.std.proofs.Common.{refl, ap, sym, ◌≡◌, ◌∙◌, ◌<◌, ◌≤◌, ◌+◌, arith, ℕ, zero, suc, Bool, true, false, cond, ◌==◌}
+use Rattle.std.proofs.Common.{◌&&◌, List, [], ◌∷◌, ◌++◌, length, Option, Some, None, length-append}
 use Rattle.std.specs.Option.{unwrap_or}
 use Rattle.std.proofs.lemmas.Bool.{false≢true}
 use Rattle.csv.specs.declared.parser.Config.{Config}
@@ -22,16 +23,23 @@ at_nothing cfg s fs f p e = go (ends_at_end s) e
     go false e = cc e
 
 -- behind a read that began with a byte less than that text is left
-pub shorter : (cfg : Config) (s : State) (fs : Fields) (f : List ℕ) (c : ℕ) (rest : List ℕ) (p : Read) → next_record cfg s fs f (c ∷ rest) ≡ Some p → length p.2 ≤ length rest
+pub shorter : (cfg : Config) (s : State) (fs : Fields) (f : List ℕ) (c : ℕ) (rest : List ℕ) (p : Read) → next_record cfg s fs f (c ∷ rest) ≡ Some p
+    → length p.2 ≤ length rest
 unfolding next_record
 shorter cfg s fs f c [] p e = go (is_end (step cfg s c).1) e
   where
-    go : (b : Bool) → cond b (Some (fields_after (step cfg s c).1 fs f, (step cfg s c).0, [])) (next_record cfg (step cfg s c).0 (fields_after (step cfg s c).1 fs f) (field_after (step cfg s c).1 c f) []) ≡ Some p → length p.2 ≤ length {A = ℕ} []
+    go : (b : Bool) → cond b (Some (fields_after (step cfg s c).1 fs f, (step cfg s c).0, []))
+        (next_record cfg (step cfg s c).0 (fields_after (step cfg s c).1 fs f) (field_after (step cfg s c).1 c f) []) ≡ Some p
+        → length p.2 ≤ length {A = ℕ} []
     go true e = let q : 0 ≡ length p.2 = ap (λ (o : Option Read). length (unwrap_or o p).2) e in omega arith
     go false e = let q : 0 ≡ length p.2 = ap length (at_nothing cfg _ _ _ p e) in omega arith
-shorter cfg s fs f c (d ∷ rest) p e = go (is_end (step cfg s c).1) (λ q. shorter cfg (step cfg s c).0 (fields_after (step cfg s c).1 fs f) (field_after (step cfg s c).1 c f) d rest p q) e
+shorter cfg s fs f c (d ∷ rest) p e =
+    go (is_end (step cfg s c).1) (λ q. shorter cfg (step cfg s c).0 (fields_after (step cfg s c).1 fs f) (field_after (step cfg s c).1 c f) d rest p q) e
   where
-    go : (b : Bool) → (next_record cfg (step cfg s c).0 (fields_after (step cfg s c).1 fs f) (field_after (step cfg s c).1 c f) (d ∷ rest) ≡ Some p → length p.2 ≤ length rest) → cond b (Some (fields_after (step cfg s c).1 fs f, (step cfg s c).0, d ∷ rest)) (next_record cfg (step cfg s c).0 (fields_after (step cfg s c).1 fs f) (field_after (step cfg s c).1 c f) (d ∷ rest)) ≡ Some p → length p.2 ≤ length (d ∷ rest)
+    go : (b : Bool) → (next_record cfg (step cfg s c).0 (fields_after (step cfg s c).1 fs f) (field_after (step cfg s c).1 c f) (d ∷ rest) ≡ Some p
+        → length p.2 ≤ length rest) → cond b (Some (fields_after (step cfg s c).1 fs f, (step cfg s c).0, d ∷ rest))
+        (next_record cfg (step cfg s c).0 (fields_after (step cfg s c).1 fs f) (field_after (step cfg s c).1 c f) (d ∷ rest)) ≡ Some p
+        → length p.2 ≤ length (d ∷ rest)
     go true ih e = let q : length (d ∷ rest) ≡ length p.2 = ap (λ (o : Option Read). length (unwrap_or o p).2) e in omega arith
     go false ih e = let q = ih e in omega arith
 
@@ -42,8 +50,10 @@ after_end-settled (term.Any t) c = refl
 in_field-settled : (cfg : Config) (c : ℕ) → is_end (in_field cfg c).1 ≡ true → ends_at_end (in_field cfg c).0 ≡ false
 in_field-settled cfg c = go (c == cfg.delimiter) (ends_with cfg.terminator c)
   where
-    go : (a b : Bool) → is_end (cond {A = State × Action} a (st.StartField, act.EndField) (cond {A = State × Action} b (after_end cfg.terminator c, act.EndRecord) (st.InField, act.Copy))).1 ≡ true
-        → ends_at_end (cond {A = State × Action} a (st.StartField, act.EndField) (cond {A = State × Action} b (after_end cfg.terminator c, act.EndRecord) (st.InField, act.Copy))).0 ≡ false
+    go : (a b : Bool) → is_end (cond {A = State × Action} a (st.StartField, act.EndField)
+        (cond {A = State × Action} b (after_end cfg.terminator c, act.EndRecord) (st.InField, act.Copy))).1 ≡ true
+        → ends_at_end (cond {A = State × Action} a (st.StartField, act.EndField)
+        (cond {A = State × Action} b (after_end cfg.terminator c, act.EndRecord) (st.InField, act.Copy))).0 ≡ false
     go true b e = absurd (false≢true e)
     go false true e = after_end-settled cfg.terminator c
     go false false e = absurd (false≢true e)
@@ -74,21 +84,29 @@ settled cfg st.InComment c = or_settled (c == 10) st.StartRecord act.Skip (st.In
 settled cfg st.AfterCr c = or_settled (c == 10) st.StartRecord act.Skip _ refl (start_record-settled cfg c)
 
 -- so is the state that a read leaves
-pub settled_after : (cfg : Config) (s : State) (fs : Fields) (f : List ℕ) (xs : List ℕ) (p : Read) → next_record cfg s fs f xs ≡ Some p → ends_at_end p.1 ≡ false
+pub settled_after : (cfg : Config) (s : State) (fs : Fields) (f : List ℕ) (xs : List ℕ) (p : Read) → next_record cfg s fs f xs ≡ Some p
+    → ends_at_end p.1 ≡ false
 unfolding next_record
 settled_after cfg s fs f [] p e = go (ends_at_end s) e
   where
     go : (b : Bool) → cond b (Some (fs ++ (f ∷ []), st.StartRecord, [])) None ≡ Some p → ends_at_end p.1 ≡ false
     go true e = sym (ap (λ (o : Option Read). ends_at_end (unwrap_or o p).1) e)
     go false e = cc e
-settled_after cfg s fs f (c ∷ rest) p e = go (is_end (step cfg s c).1) refl (λ q. settled_after cfg (step cfg s c).0 (fields_after (step cfg s c).1 fs f) (field_after (step cfg s c).1 c f) rest p q) e
+settled_after cfg s fs f (c ∷ rest) p e =
+    go (is_end (step cfg s c).1) refl
+    (λ q. settled_after cfg (step cfg s c).0 (fields_after (step cfg s c).1 fs f) (field_after (step cfg s c).1 c f) rest p q) e
   where
-    go : (b : Bool) → is_end (step cfg s c).1 ≡ b → (next_record cfg (step cfg s c).0 (fields_after (step cfg s c).1 fs f) (field_after (step cfg s c).1 c f) rest ≡ Some p → ends_at_end p.1 ≡ false) → cond b (Some (fields_after (step cfg s c).1 fs f, (step cfg s c).0, rest)) (next_record cfg (step cfg s c).0 (fields_after (step cfg s c).1 fs f) (field_after (step cfg s c).1 c f) rest) ≡ Some p → ends_at_end p.1 ≡ false
+    go : (b : Bool) → is_end (step cfg s c).1 ≡ b
+        → (next_record cfg (step cfg s c).0 (fields_after (step cfg s c).1 fs f) (field_after (step cfg s c).1 c f) rest ≡ Some p
+        → ends_at_end p.1 ≡ false)
+        → cond b (Some (fields_after (step cfg s c).1 fs f, (step cfg s c).0, rest))
+        (next_record cfg (step cfg s c).0 (fields_after (step cfg s c).1 fs f) (field_after (step cfg s c).1 c f) rest) ≡ Some p → ends_at_end p.1 ≡ false
     go true is ih e = sym (ap (λ (o : Option Read). ends_at_end (unwrap_or o p).1) e) ∙ settled cfg s c is
     go false is ih e = ih e
 
 -- a read between records takes a byte at least
-pub next_shorter : (cfg : Config) (s : State) (xs : List ℕ) (p : Read) → ends_at_end s ≡ false → next_record cfg s [] [] xs ≡ Some p → suc (length p.2) ≤ length xs
+pub next_shorter : (cfg : Config) (s : State) (xs : List ℕ) (p : Read) → ends_at_end s ≡ false → next_record cfg s [] [] xs ≡ Some p
+    → suc (length p.2) ≤ length xs
 unfolding next_record
 next_shorter cfg s [] p quiet e =
     let none : ◌≡◌ {A = Option Read} None (Some p) = rw quiet at e in cc none
@@ -140,11 +158,13 @@ size_step act.Skip c fs f = omega arith
 size_step act.Copy c fs f = let e = length-append f (c ∷ []) in omega (arith, e)
 
 -- the fields of a read have no more bytes than it took
-pub size_read : (cfg : Config) (s : State) (fs : Fields) (f : List ℕ) (xs : List ℕ) (p : Read) → next_record cfg s fs f xs ≡ Some p → size p.0 + length p.2 ≤ size fs + length f + length xs
+pub size_read : (cfg : Config) (s : State) (fs : Fields) (f : List ℕ) (xs : List ℕ) (p : Read) → next_record cfg s fs f xs ≡ Some p
+    → size p.0 + length p.2 ≤ size fs + length f + length xs
 unfolding next_record
 size_read cfg s fs f [] p e = go (ends_at_end s) e
   where
-    go : (b : Bool) → cond b (Some (fs ++ (f ∷ []), st.StartRecord, [])) None ≡ Some p → size p.0 + length p.2 ≤ size fs + length f + length {A = ℕ} []
+    go : (b : Bool) → cond b (Some (fs ++ (f ∷ []), st.StartRecord, [])) None ≡ Some p
+        → size p.0 + length p.2 ≤ size fs + length f + length {A = ℕ} []
     go true e =
         let fields : size (fs ++ f ∷ []) ≡ size p.0 = ap (λ (o : Option Read). size (unwrap_or o p).0) e in
         let left : 0 ≡ length p.2 = ap (λ (o : Option Read). length (unwrap_or o p).2) e in
@@ -152,11 +172,15 @@ size_read cfg s fs f [] p e = go (ends_at_end s) e
         omega (arith, fields, left, last)
     go false e = cc e
 size_read cfg s fs f (c ∷ rest) p e =
-    go (is_end (step cfg s c).1) (size_read cfg (step cfg s c).0 (fields_after (step cfg s c).1 fs f) (field_after (step cfg s c).1 c f) rest p) (size_step (step cfg s c).1 c fs f) e
+    go (is_end (step cfg s c).1) (size_read cfg (step cfg s c).0 (fields_after (step cfg s c).1 fs f) (field_after (step cfg s c).1 c f) rest p)
+    (size_step (step cfg s c).1 c fs f) e
   where
-    go : (b : Bool) → (next_record cfg (step cfg s c).0 (fields_after (step cfg s c).1 fs f) (field_after (step cfg s c).1 c f) rest ≡ Some p → size p.0 + length p.2 ≤ size (fields_after (step cfg s c).1 fs f) + length (field_after (step cfg s c).1 c f) + length rest)
+    go : (b : Bool) → (next_record cfg (step cfg s c).0 (fields_after (step cfg s c).1 fs f) (field_after (step cfg s c).1 c f) rest ≡ Some p
+        → size p.0 + length p.2 ≤ size (fields_after (step cfg s c).1 fs f) + length (field_after (step cfg s c).1 c f) + length rest)
         → size (fields_after (step cfg s c).1 fs f) + length (field_after (step cfg s c).1 c f) ≤ size fs + length f + 1
-        → cond b (Some (fields_after (step cfg s c).1 fs f, (step cfg s c).0, rest)) (next_record cfg (step cfg s c).0 (fields_after (step cfg s c).1 fs f) (field_after (step cfg s c).1 c f) rest) ≡ Some p → size p.0 + length p.2 ≤ size fs + length f + length (c ∷ rest)
+        → cond b (Some (fields_after (step cfg s c).1 fs f, (step cfg s c).0, rest))
+        (next_record cfg (step cfg s c).0 (fields_after (step cfg s c).1 fs f) (field_after (step cfg s c).1 c f) rest) ≡ Some p
+        → size p.0 + length p.2 ≤ size fs + length f + length (c ∷ rest)
     go true ih one e =
         let fields : size (fields_after (step cfg s c).1 fs f) ≡ size p.0 = ap (λ (o : Option Read). size (unwrap_or o p).0) e in
         let left : length rest ≡ length p.2 = ap (λ (o : Option Read). length (unwrap_or o p).2) e in

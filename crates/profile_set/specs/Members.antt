@@ -22,6 +22,7 @@ records_of bytes = records default_config (strip_bom bytes)
 abbrev pub header : Fields
 header = codes "kind" ∷ codes "name" ∷ codes "role" ∷ []
 
+-- the word of a record's kind
 abbrev pub kind_text : On → List ℕ
 kind_text User = codes "user"
 kind_text Permission = codes "permission"
@@ -46,7 +47,8 @@ pub record IsRow (names : List (List ℕ)) (fields : Fields) (row : MemberRow) :
 -- the records stand for the rows, one by one
 abbrev pub AreRows : List (List ℕ) → List Fields → List MemberRow → Type 0
 AreRows names [] rows = rows ≡ []
-AreRows names (fields ∷ later) rows = (row : MemberRow) × (more : List MemberRow) × IsRow names fields row × AreRows names later more × (rows ≡ row ∷ more)
+AreRows names (fields ∷ later) rows =
+    (row : MemberRow) × (more : List MemberRow) × IsRow names fields row × AreRows names later more × (rows ≡ row ∷ more)
 
 -- the bytes are a list of members, and these are its rows
 pub record IsMembers (names : List (List ℕ)) (bytes : List ℕ) (rows : List MemberRow) : Type 0 where
@@ -58,7 +60,8 @@ pub record IsMembers (names : List (List ℕ)) (bytes : List ℕ) (rows : List M
 abbrev pub IsRecordFault : List (List ℕ) → Fields → ℕ → MembersError → Type 0
 IsRecordFault names fields number (BadRow at) = (at ≡ number) × ((on : On) (name role : List ℕ) → ¬ IsFormed fields on name role)
 IsRecordFault names fields number (UnknownRole at) =
-    (at ≡ number) × (on : On) × (name : List ℕ) × (role : List ℕ) × IsFormed fields on name role × (¬ (role ≡ [])) × (place_of names role ≡ None)
+    (at ≡ number) × (on : On) × (name : List ℕ) × (role : List ℕ) × IsFormed fields on name role × (¬ (role ≡ []))
+    × (place_of names role ≡ None)
 IsRecordFault names fields number Memory = ⊥
 
 -- the first record at fault is behind the header and records that stand for rows; the header has number 1

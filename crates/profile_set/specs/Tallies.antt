@@ -6,6 +6,7 @@ use Rattle.role_order.specs.Orders.{set_before}
 use Rattle.arbac_policy.specs.declared.profile.Profile.{Profile}
 use Rattle.profile_set.specs.Groups.{RiseBySet, holders}
 
+-- how many users a profile counts
 abbrev pub number_of : Option ℕ → ℕ
 number_of None = 0
 number_of (Some most) = most
@@ -19,6 +20,7 @@ tally set (profile ∷ profiles) = (if bytes_eq profile.set set then number_of p
 abbrev pub IsCounted : Profile → Type 0
 IsCounted profile = (count : ℕ) × (profile.most ≡ Some count) × (1 ≤ count)
 
+-- one more user can be counted in 32 bits
 abbrev pub HasRoom : Profile → Type 0
 HasRoom profile = number_of profile.most + 1 < 2 ^ 32
 
@@ -28,9 +30,11 @@ pub record IsTally (members : List (List ℕ)) (profiles : List Profile) : Type 
   pub counted : Each IsCounted profiles
   pub tallies : (set : List ℕ) → tally set profiles ≡ holders set members
 
+-- the profile with one more user
 abbrev pub with_one : Profile → Profile
 with_one profile = record { set = profile.set; most = Some (number_of profile.most + 1) }
 
+-- the set's profile with one user
 abbrev pub first_of : List ℕ → Profile
 first_of set = record { set = set; most = Some 1 }
 

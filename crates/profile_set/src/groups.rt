@@ -1,30 +1,21 @@
 //! Users grouped by their sets.
 
-ghost use Rattle.std.specs.Prelude.{ℕ, ◌≡◌, ◌<◌, ◌≤◌, ◌+◌, ◌^◌, true, false, List, length, slice_get, Some, IfOk, OnOk};
+ghost use Rattle.std.specs.Prelude.{◌≡◌, ◌<◌, ◌^◌, List, length, IfOk, OnOk};
 ghost use Rattle.list_words.specs.Lists.{Each};
-ghost use Rattle.role_order.specs.Orders.{set_before};
 ghost use Rattle.arbac_policy.specs.declared.profile.Profile.{Profile};
 ghost use Rattle.profile_set.specs.Groups.{RiseBySet, IsGroup};
-ghost use Rattle.profile_set.specs.Tallies.{HasRoom, with_member, with_one as one_more};
+ghost use Rattle.profile_set.specs.Tallies as tallies;
+ghost use Rattle.profile_set.specs.Tallies.{HasRoom};
 
+use crate::NoMemory;
 use arbac_policy::Profile;
 use role_order::RoleSet;
 use std::alloc::{AllocError, Global};
 
-/// The place of the first profile whose set isn't before this one.
-fn place_of(profiles: &[Profile], set: &RoleSet) -> usize
-    requires { RiseBySet profiles.now }
-    ensures within { result ≤ length profiles.now }
-    ensures before { (k : ℕ) (profile : Profile) → k < result → slice_get profiles.now k ≡ Some profile → set_before profile.set set.now ≡ true }
-    ensures here { (profile : Profile) → slice_get profiles.now result ≡ Some profile → set_before profile.set set.now ≡ false }
-{
-    profiles.partition_point(|profile| profile.set.before(set))
-}
-
 /// The profile with one user more.
 fn with_one(profile: &Profile) -> Profile
     requires { HasRoom profile.now }
-    ensures { result ≡ one_more profile.now }
+    ensures { result ≡ tallies.with_one profile.now }
 {
     Profile {
         set: profile.set,
@@ -39,9 +30,9 @@ fn with_one(profile: &Profile) -> Profile
 fn add_member(profiles: &mut Vec<Profile>, set: &RoleSet) -> Result<(), AllocError>
     requires rise { RiseBySet profiles.old.items }
     requires room { Each HasRoom profiles.old.items }
-    ensures { OnOk result (profiles.new.items ≡ with_member profiles.old.items set.now) }
+    ensures { OnOk result (profiles.new.items ≡ tallies.with_member profiles.old.items set.now) }
 {
-    let at = place_of(profiles, set);
+    let at = profiles.partition_point(|profile| profile.set.before(set));
     if at < profiles.len() && !set.before(&profiles[at].set) {
         profiles[at] = with_one(&profiles[at]);
     } else {
@@ -58,7 +49,7 @@ fn add_member(profiles: &mut Vec<Profile>, set: &RoleSet) -> Result<(), AllocErr
 
 /// One profile for each different set of the members, in the order of sets, with the number of
 /// members that have the set.
-pub fn group(alloc: Global, members: &[RoleSet]) -> Result<Vec<Profile>, AllocError>
+pub fn group(alloc: Global, members: &[RoleSet]) -> Result<Vec<Profile>, NoMemory>
     requires { length members.now < 2 ^ 32 }
     // What is made is the group.
     ensures group { IfOk result (λ profiles. IsGroup members.now profiles.items) }

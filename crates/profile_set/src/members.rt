@@ -1,6 +1,7 @@
 //! Reading lists of members.
 
-ghost use Rattle.std.specs.Prelude.{ℕ, ◌≡◌, ◌<◌, ◌≤◌, ◌+◌, ◌^◌, ◌↔◌, [], ◌∷◌, List, length, Some, None, Ok, IsTrue, IfOk, IfErr, IfSome, IfNone};
+ghost use Rattle.std.specs.Prelude.{ℕ, ◌≡◌, ◌<◌, ◌≤◌, ◌+◌, ◌^◌, ◌↔◌, [], ◌∷◌, List, length, Some, None, Ok, IsTrue};
+ghost use Rattle.std.specs.Prelude.{IfOk, IfErr, IfSome, IfNone};
 ghost use Rattle.csv.specs.Reading.{error_kind, stops_reader};
 ghost use Rattle.csv.specs.Records.{AllText, fields_of};
 ghost use Rattle.role_order.specs.Names.{place_of};
@@ -133,13 +134,6 @@ fn records_of(alloc: Global, bytes: &[u8]) -> StringRecordsIntoIter<&[u8]>
         .into_records()
 }
 
-/// Whether records in so many bytes may be more than a number of 32 bits can count.
-fn is_beyond(count: usize) -> bool
-    ensures { IsTrue result ↔ (2 ^ 32 ≤ count) }
-{
-    u32::try_from(count).is_err()
-}
-
 fn read(alloc: Global, order: &Order, bytes: &[u8]) -> Result<Vec<MemberRow>, MembersError>
     requires { length bytes.now < 2 ^ 32 }
     ensures rows { IfOk result (λ rows. IsMembers order.now.names bytes.now rows.items) }
@@ -183,7 +177,7 @@ pub fn read_members(
     ensures one { (left right : List MemberRow) → IsMembers order.now.names bytes.now left → IsMembers order.now.names bytes.now right → left ≡ right }
 {
     // Records are counted in 32 bits; where bytes may have more, this counts as want of memory.
-    if is_beyond(bytes.len()) {
+    if u32::try_from(bytes.len()).is_err() {
         return Err(MembersError::Memory);
     }
     read(alloc, order, bytes)

@@ -8,10 +8,11 @@ ghost use Rattle.std.specs.Ordering.{nat_cmp, as_partial_cmp};
 ghost use Rattle.std.specs.Cmp.Lexicographic.{slice_cmp};
 ghost use Rattle.std.proofs.lemmas.Cmp.{nat_list_cmp_total};
 ghost use Rattle.std.proofs.Common.{rules};
-ghost use Rattle.role_order.specs.Names.{is_name as name};
+ghost use Rattle.role_order.specs.Names as names;
 
+use crate::NoMemory;
 use role_order::is_name;
-use std::alloc::{AllocError, Global};
+use std::alloc::Global;
 use std::cmp::Ordering;
 use std::marker::Model;
 
@@ -35,10 +36,10 @@ impl Model for Name {
 
 impl Name {
     /// The name with this text. None exactly where the text is no name.
-    pub fn new(alloc: Global, text: &str) -> Result<Option<Name>, AllocError>
+    pub fn new(alloc: Global, text: &str) -> Result<Option<Name>, NoMemory>
         ensures text { IfOk result (λ made. IfSome made (λ new. new ≡ text.now)) }
-        ensures name { IfOk result (λ made. IfSome made (λ new. name text.now ≡ true)) }
-        ensures none { IfOk result (λ made. IfNone made (name text.now ≡ false)) }
+        ensures name { IfOk result (λ made. IfSome made (λ new. names.is_name text.now ≡ true)) }
+        ensures none { IfOk result (λ made. IfNone made (names.is_name text.now ≡ false)) }
     {
         if !is_name(text) {
             return Ok(None);
@@ -50,13 +51,13 @@ impl Name {
     /// The text.
     pub fn as_str(&self) -> &str
         ensures text { result.now ≡ self.now }
-        ensures name { name self.now ≡ true }
+        ensures name { names.is_name self.now ≡ true }
     {
         self.text.as_str()
     }
 
     /// A second value of the same name.
-    pub fn copy(&self, alloc: Global) -> Result<Name, AllocError>
+    pub fn copy(&self, alloc: Global) -> Result<Name, NoMemory>
         ensures { IfOk result (λ new. new ≡ self.now) }
     {
         let text = String::from_str(alloc, self.text.as_str())?;

@@ -43,6 +43,21 @@ const CHOICES: [(&[u32], Option<u32>); 7] = [
     (&[2, 4_294_967_295], Some(1)),
 ];
 
+/// Choices of 1,026 profiles that each stand once, and the first place that isn't drawn. Uses are counted
+/// for 1,024 profiles at a time.
+const LONG_CHOICES: [(&[u32], Option<u32>); 9] = [
+    (&[0, 1_023, 1_024, 1_025], None),
+    (&[0, 1_023, 1_024, 1_023], Some(3)),
+    (&[0, 1_024, 1_025, 1_024], Some(3)),
+    (&[1_025, 1_024, 1_025], Some(2)),
+    (&[1_025, 1_026], Some(1)),
+    // Of two faults the first is told, wherever their profiles are.
+    (&[0, 0, 1_024, 1_024], Some(1)),
+    (&[1_024, 1_024, 0, 0], Some(1)),
+    (&[1_024, 0, 1_026, 0, 1_024], Some(2)),
+    (&[1_024, 0, 1_024, 0, 1_026], Some(2)),
+];
+
 /// The order of two texts as names; none where one of them is no name.
 fn order_of_names(alloc: Global, left: &str, right: &str) -> Result<Option<Ordering>, AllocError> {
     match (Name::new(alloc, left)?, Name::new(alloc, right)?) {
@@ -74,6 +89,10 @@ fn names_and_choices(rt: HostRuntime) -> Result<(), Fail> {
     let profiles = [Some(2), Some(0), None].map(|most| Profile { set, most });
     for (choice, place) in CHOICES {
         assert_eq!(rt; undrawn(&profiles, choice), place);
+    }
+    let profiles = [Profile { set, most: Some(1) }; 1_026];
+    for (choice, place) in LONG_CHOICES {
+        assert_eq!(rt; undrawn(&profiles, choice), place, "{choice:?}");
     }
     Ok(())
 }

@@ -1,5 +1,6 @@
 -- A document's question keeps the rules of questions.
-use Rattle.std.proofs.Common.{ℕ, suc, ◌≡◌, ◌≤◌, ◌+◌, Bool, true, false, not, cond, List, [], ◌∷◌, length, Option, Some, None, Ok, refl, sym, ap, subst, ◌∙◌, arith, inl, inr}
+use Rattle.std.proofs.Common.{ℕ, suc, ◌≡◌, ◌≤◌, ◌+◌, Bool, true, false, not, cond, List, [], ◌∷◌, length, Option, Some, None, Ok}
+use Rattle.std.proofs.Common.{refl, sym, ap, subst, ◌∙◌, arith, inl, inr}
 use Rattle.std.specs.Prelude.{codes, nat_lt, position, option_and_then, slice_get}
 use Rattle.std.specs.List.{position_or_len}
 use Rattle.std.specs.Str.{bytes_eq}
@@ -11,17 +12,19 @@ use Rattle.list_words.specs.Lists.{Each}
 use Rattle.role_order.specs.Names.{place_of}
 use Rattle.role_order.specs.Refusals.{IsOrder}
 use Rattle.arbac_policy.specs.Rules.{IsKnownPair}
-use Rattle.policy_text.specs.declared.TheConstants.{MOST_EDGES, MOST_RULES}
-use Rattle.policy_text.proofs.OrderLemmas.{place_found}
+use Rattle.arbac_policy.specs.declared.TheConstants.{MOST_EDGES, MOST_RULES}
+use Rattle.cond_text.proofs.OrderLemmas.{place_found}
 use Rattle.question_text.specs.declared.TheConstants.{MOST_PAIRS}
 use Rattle.question_text.specs.Outcomes.{Outcome}
 use Rattle.question_text.specs.Values.{QuestionValue}
 use Rattle.question_text.specs.Keys.{if_different, as_two_texts, of_kind}
-use Rattle.question_text.specs.Roles.{role_named, is_order, admin_roles, both_roles, an_edge, a_pair, is_mixed, unless_mixed, not_mixed, role_edges, exclusive_pairs, listed_roles}
+use Rattle.question_text.specs.Roles.{role_named, is_order, admin_roles, both_roles, an_edge, a_pair, is_mixed, unless_mixed, not_mixed, role_edges}
+use Rattle.question_text.specs.Roles.{exclusive_pairs, listed_roles}
 use Rattle.question_text.specs.Tables.{is_mixed_rule}
 use Rattle.question_text.specs.Documents.{HeadValue, RolesValue, RulesValue, the_roles, the_rules, question_of, question, document}
 use Rattle.question_text.specs.Rules.{IsSet, IsPair, IsAssignRule, IsRevokeRule, AreApart, KeepsRules}
-use Rattle.question_text.proofs.TableLaws.{IsApart, found_at, passed, within, role_kept, entries_kept, set_kept, assign_rules_kept, revoke_rules_kept, assign_rules_apart, revoke_rules_apart, profiles_kept, goal_kept}
+use Rattle.question_text.proofs.TableLaws.{IsApart, found_at, passed, within, role_kept, entries_kept, set_kept, assign_rules_kept, revoke_rules_kept}
+use Rattle.question_text.proofs.TableLaws.{assign_rules_apart, revoke_rules_apart, profiles_kept, goal_kept}
 use Rattle.question_text.proofs.OutcomeLemmas.{same_ok, no_ok_err}
 
 -- where no item passes the test, each fails it
@@ -30,11 +33,13 @@ each_fails test [] none = tt
 each_fails test (x ∷ xs) none = by_test (test x) refl none (λ later. each_fails test xs later)
   where
     by_test : (t : Bool) → test x ≡ t → nat_lt (cond (not t) (1 + position_or_len test xs) 0) (suc (length xs)) ≡ false
-        → (nat_lt (position_or_len test xs) (length xs) ≡ false → Each (λ y. test y ≡ false) xs) → (test x ≡ false) × Each (λ y. test y ≡ false) xs
+        → (nat_lt (position_or_len test xs) (length xs) ≡ false → Each (λ y. test y ≡ false) xs) → (test x ≡ false)
+        × Each (λ y. test y ≡ false) xs
     by_test true t none later = absurd (grind (arith, nat_tests))
     by_test false t none later = (t, later (grind (arith, nat_tests)))
 
-none_mixed : (admins path : List ℕ) (list : List (ℕ × ℕ)) → unless_mixed path (position (is_mixed admins) list) (Ok tt) → Each (λ roles. is_mixed admins roles ≡ false) list
+none_mixed : (admins path : List ℕ) (list : List (ℕ × ℕ)) → unless_mixed path (position (is_mixed admins) list) (Ok tt)
+    → Each (λ roles. is_mixed admins roles ≡ false) list
 none_mixed admins path list h = by_test (nat_lt (position_or_len (is_mixed admins) list) (length list)) refl h
   where
     by_test : (t : Bool) → nat_lt (position_or_len (is_mixed admins) list) (length list) ≡ t
@@ -42,7 +47,8 @@ none_mixed admins path list h = by_test (nat_lt (position_or_len (is_mixed admin
     by_test true t h = absurd (no_ok_err tt _ h)
     by_test false t h = each_fails (is_mixed admins) list t
 
-apart_kept : (separate : Bool) (admins path : List ℕ) (list : List (ℕ × ℕ)) → not_mixed separate admins path list (Ok tt) → separate ≡ true → Each (λ roles. is_mixed admins roles ≡ false) list
+apart_kept : (separate : Bool) (admins path : List ℕ) (list : List (ℕ × ℕ)) → not_mixed separate admins path list (Ok tt) → separate ≡ true
+    → Each (λ roles. is_mixed admins roles ≡ false) list
 apart_kept true admins path list h s = none_mixed admins path list h
 apart_kept false admins path list h s = absurd (cc)
 
@@ -52,8 +58,10 @@ pub record IsListed (most : ℕ) (P : ℕ × ℕ → Type 0) (separate : Bool) (
   pub each : Each P list
   pub apart : separate ≡ true → Each (λ roles. is_mixed admins roles ≡ false) list
 
-listed_kept : (most : ℕ) (read : List ℕ → Data → Outcome (ℕ × ℕ)) (P : ℕ × ℕ → Type 0) (separate : Bool) (admins key : List ℕ) (table : Members) (list : List (ℕ × ℕ))
-    → ((path : List ℕ) (d : Data) (roles : ℕ × ℕ) → read path d (Ok roles) → P roles) → listed_roles most read separate admins key table (Ok list) → IsListed most P separate admins list
+listed_kept : (most : ℕ) (read : List ℕ → Data → Outcome (ℕ × ℕ)) (P : ℕ × ℕ → Type 0) (separate : Bool) (admins key : List ℕ) (table : Members)
+    (list : List (ℕ × ℕ))
+    → ((path : List ℕ) (d : Data) (roles : ℕ × ℕ) → read path d (Ok roles) → P roles) → listed_roles most read separate admins key table (Ok list)
+    → IsListed most P separate admins list
 listed_kept most read P separate admins key table list each (inl (fault, h, e)) = absurd (no_ok_err list fault e)
 listed_kept most read P separate admins key table list each (inr (ds, l, inl (fault, h, e))) = absurd (no_ok_err list fault e)
 listed_kept most read P separate admins key table list each (inr (ds, l, inr (done, f, inl (fault, h, e)))) = absurd (no_ok_err list fault e)
@@ -61,7 +69,12 @@ listed_kept most read P separate admins key table list each (inr (ds, l, inr (do
 listed_kept most read P separate admins key table list each (inr (ds, l, inr (done, f, inr (roles, r, inr (over, a, e))))) =
     let kept = entries_kept P read each key ds roles r in
     let room : length ds ≤ most = within most (length ds) (passed (nat_lt most (length ds)) _ f) in
-    let all : IsListed most P separate admins roles = record { few = omega (arith, kept.1, room); each = kept.0; apart = apart_kept separate admins key roles a } in
+    let all : IsListed most P separate admins roles = record {
+      few = omega
+          (arith, kept.1, room);
+      each = kept.0;
+      apart = apart_kept separate admins key roles a;
+    } in
     subst (IsListed most P separate admins) (same_ok roles list (sym e)) all
 
 order_kept : (names : List (List ℕ)) (edges : List (ℕ × ℕ)) → is_order names edges (Ok tt) → IsOrder names edges
@@ -74,7 +87,8 @@ pub record AreEdgesKept (separate : Bool) (admins : List ℕ) (names : List (Lis
   pub few : length edges ≤ MOST_EDGES
   pub apart : separate ≡ true → Each (λ edge. is_mixed admins edge ≡ false) edges
 
-edges_kept : (separate : Bool) (admins : List ℕ) (names : List (List ℕ)) (table : Members) (edges : List (ℕ × ℕ)) → role_edges separate admins names table (Ok edges) → AreEdgesKept separate admins names edges
+edges_kept : (separate : Bool) (admins : List ℕ) (names : List (List ℕ)) (table : Members) (edges : List (ℕ × ℕ))
+    → role_edges separate admins names table (Ok edges) → AreEdgesKept separate admins names edges
 edges_kept separate admins names table edges (inl (fault, h, e)) = absurd (no_ok_err edges fault e)
 edges_kept separate admins names table edges (inr (list, l, inl (fault, h, e))) = absurd (no_ok_err edges fault e)
 edges_kept separate admins names table edges (inr (list, l, inr (done, o, e))) =
@@ -83,11 +97,13 @@ edges_kept separate admins names table edges (inr (list, l, inr (done, o, e))) =
     subst (AreEdgesKept separate admins names) (same_ok list edges (sym e)) all
 
 -- the set of administrative roles is one of the order's
-admins_kept : (separate : Bool) (names : List (List ℕ)) (table : Members) (admins : List ℕ) → admin_roles separate names table (Ok admins) → IsSet (length names) admins
+admins_kept : (separate : Bool) (names : List (List ℕ)) (table : Members) (admins : List ℕ) → admin_roles separate names table (Ok admins)
+    → IsSet (length names) admins
 admins_kept separate names table admins (inl (fault, h, e)) = absurd (no_ok_err admins fault e)
 admins_kept separate names table admins (inr (list, l, h)) = set_kept names (codes "admin_roles") list admins h
 
-different_kept : (o : Option (List ℕ × List ℕ)) (path : List ℕ) (texts : List ℕ × List ℕ) → of_kind (option_and_then if_different o) path (Ok texts) → texts.0 ≡ texts.1 → ⊥
+different_kept : (o : Option (List ℕ × List ℕ)) (path : List ℕ) (texts : List ℕ × List ℕ)
+    → of_kind (option_and_then if_different o) path (Ok texts) → texts.0 ≡ texts.1 → ⊥
 different_kept None path texts h same = no_ok_err texts _ h
 different_kept (Some t) path texts h same = by_test (bytes_eq t.0 t.1) refl h
   where
@@ -98,14 +114,16 @@ different_kept (Some t) path texts h same = by_test (bytes_eq t.0 t.1) refl h
         let one : t.0 ≡ t.1 = subst (λ (u : List ℕ × List ℕ). u.0 ≡ u.1) is same in
         false≢true (sym b ∙ (bytes_eq-Decides t.0 t.1).1 one)
 
-same_name : (names : List (List ℕ)) (path : List ℕ) (first second : List ℕ) (a b : ℕ) → role_named names path first (Ok a) → role_named names path second (Ok b) → a ≡ b → first ≡ second
+same_name : (names : List (List ℕ)) (path : List ℕ) (first second : List ℕ) (a b : ℕ) → role_named names path first (Ok a)
+    → role_named names path second (Ok b) → a ≡ b → first ≡ second
 same_name names path first second a b h k same =
     let x = place_found first names a (found_at path (place_of names first) a h) in
     let y = place_found second names b (found_at path (place_of names second) b k) in
     let z : Some first ≡ Some second = sym x ∙ ap (slice_get names) same ∙ y in
     cc
 
-roles_kept : (names : List (List ℕ)) (path : List ℕ) (texts : List ℕ × List ℕ) (pair : ℕ × ℕ) → (texts.0 ≡ texts.1 → ⊥) → both_roles names path texts (Ok pair) → IsPair (length names) pair
+roles_kept : (names : List (List ℕ)) (path : List ℕ) (texts : List ℕ × List ℕ) (pair : ℕ × ℕ) → (texts.0 ≡ texts.1 → ⊥)
+    → both_roles names path texts (Ok pair) → IsPair (length names) pair
 roles_kept names path texts pair other (inl (fault, h, e)) = absurd (no_ok_err pair fault e)
 roles_kept names path texts pair other (inr (first, f, inl (fault, h, e))) = absurd (no_ok_err pair fault e)
 roles_kept names path texts pair other (inr (first, f, inr (second, s, e))) =
@@ -119,11 +137,13 @@ pair_kept : (names : List (List ℕ)) (path : List ℕ) (d : Data) (pair : ℕ �
 pair_kept names path d pair (inl (fault, h, e)) = absurd (no_ok_err pair fault e)
 pair_kept names path d pair (inr (texts, t, h)) = roles_kept names path texts pair (different_kept (as_two_texts d) path texts t) h
 
-exclusive_kept : (version : ℕ) (separate : Bool) (admins : List ℕ) (names : List (List ℕ)) (table : Members) (pairs : List (ℕ × ℕ)) → exclusive_pairs version separate admins names table (Ok pairs)
+exclusive_kept : (version : ℕ) (separate : Bool) (admins : List ℕ) (names : List (List ℕ)) (table : Members) (pairs : List (ℕ × ℕ))
+    → exclusive_pairs version separate admins names table (Ok pairs)
     → IsListed MOST_PAIRS (IsPair (length names)) separate admins pairs
 exclusive_kept version separate admins names table pairs (inl (fault, h, e)) = absurd (no_ok_err pairs fault e)
 exclusive_kept version separate admins names table pairs (inr (done, f, h)) =
-    listed_kept MOST_PAIRS (a_pair names) (IsPair (length names)) separate admins (codes "exclusive") table pairs (λ path d pair k. pair_kept names path d pair k) h
+    listed_kept MOST_PAIRS (a_pair names) (IsPair (length names)) separate admins (codes "exclusive") table pairs
+    (λ path d pair k. pair_kept names path d pair k) h
 
 each_known : (count : ℕ) (pairs : List (ℕ × ℕ)) → Each (IsPair count) pairs → Each (IsKnownPair count) pairs
 each_known count [] each = tt

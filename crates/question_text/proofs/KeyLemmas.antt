@@ -1,5 +1,6 @@
 -- Lists and tables of values as lists of data and members, and the tests on them.
-use Rattle.std.proofs.Common.{ℕ, zero, suc, ◌≡◌, ◌+◌, ◌≤◌, ◌<◌, Bool, true, false, List, [], ◌∷◌, ◌++◌, length, take, get_or, map, Option, Some, None, Ok, Err, Bor, refl, sym, ap, ◌∙◌, arith}
+use Rattle.std.proofs.Common.{ℕ, zero, suc, ◌≡◌, ◌+◌, ◌≤◌, ◌<◌, Bool, true, false, List, [], ◌∷◌, ◌++◌, length, take, get_or}
+use Rattle.std.proofs.Common.{map, Option, Some, None, Ok, Err, Bor, refl, sym, ap, ◌∙◌, arith}
 use Rattle.std.specs.Prelude.{slice_get, nat_lt, ◌||◌, option_map, option_copied}
 use Rattle.std.specs.List.{list_any}
 use Rattle.std.specs.Str.{bytes_eq}
@@ -32,12 +33,14 @@ few_enough most path list long is few =
     let test : nat_lt most (length list) ≡ false = grind (arith, nat_tests) in
     rw test refl
 
-pub too_long : (most : ℕ) (path : List ℕ) (list : List Data) (long : ℕ) → long ≡ length list → most < long → at_most most path list (Err (too_many path long))
+pub too_long : (most : ℕ) (path : List ℕ) (list : List Data) (long : ℕ) → long ≡ length list → most < long
+    → at_most most path list (Err (too_many path long))
 too_long most path list long is many =
     let test : nat_lt most (length list) ≡ true = grind (arith, nat_tests) in
     rw (test, is) refl
 
-pub some_filled : (xs : List Value) (long : ℕ) → long ≡ length xs → (long ≡ 0 → ⊥) → filled (list_of (items_view xs)) ≡ Some (list_of (items_view xs))
+pub some_filled : (xs : List Value) (long : ℕ) → long ≡ length xs → (long ≡ 0 → ⊥)
+    → filled (list_of (items_view xs)) ≡ Some (list_of (items_view xs))
 some_filled [] long is some = absurd (some is)
 some_filled (x ∷ xs) long is some = refl
 
@@ -78,7 +81,8 @@ entry_at items slice place x same within is =
     listed_at items place x (get_at items place x (omega (arith, ap length same)) ∙ ap Some (rw (← same) (sym is)))
 
 -- a loop over a list stops at the entry at its place, which tells a fault
-pub stops_at : {A : Type 0} (read : List ℕ → Data → Outcome A) (path : List ℕ) (items slice : List Value) (place : ℕ) (x : Value) (at : List ℕ) (values : List A) (told : Option Fault)
+pub stops_at : {A : Type 0} (read : List ℕ → Data → Outcome A) (path : List ℕ) (items slice : List Value) (place : ℕ) (x : Value) (at : List ℕ)
+    (values : List A) (told : Option Fault)
     → slice ≡ items → place < length slice → x ≡ get_or slice place x → at ≡ entry_of path place
     → entries read path (take place (list_of (items_view items))) (Ok values) → IsToldBy (read at (view x)) told
     → IsToldBy (entries read path (list_of (items_view items))) told
@@ -86,7 +90,8 @@ stops_at read path items slice place x at values told same within is where_is be
     entries_stop read path (list_of (items_view items)) place (view x) values told before (entry_at items slice place x same within is) (rw (← where_is) h)
 
 -- it goes on behind an entry that has a value
-pub goes_past : {A : Type 0} (read : List ℕ → Data → Outcome A) (path : List ℕ) (items slice : List Value) (place : ℕ) (x : Value) (at : List ℕ) (values : List A) (value : A)
+pub goes_past : {A : Type 0} (read : List ℕ → Data → Outcome A) (path : List ℕ) (items slice : List Value) (place : ℕ) (x : Value) (at : List ℕ)
+    (values : List A) (value : A)
     → slice ≡ items → place < length slice → x ≡ get_or slice place x → at ≡ entry_of path place
     → entries read path (take place (list_of (items_view items))) (Ok values) → read at (view x) (Ok value)
     → entries read path (take (place + 1) (list_of (items_view items))) (Ok (values ++ value ∷ []))

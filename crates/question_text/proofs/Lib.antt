@@ -3,7 +3,6 @@ pub mod KeyLemmas
 pub mod RoleLemmas
 pub mod TableLemmas
 pub mod SeenLemmas
-pub mod GoalLemmas
 pub mod TableLaws
 pub mod SoleLemmas
 pub mod KeptLemmas

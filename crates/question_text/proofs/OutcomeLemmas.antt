@@ -1,5 +1,6 @@
 -- Outcomes one behind another, and outcomes that are one.
-use Rattle.std.proofs.Common.{ℕ, drop, get_or, ◌≡◌, ◌+◌, ◌≤◌, Bool, true, false, List, [], ◌∷◌, ◌++◌, length, take, Option, Some, None, Result, Ok, Err, refl, sym, ap, subst, ◌∙◌, arith, inl, inr}
+use Rattle.std.proofs.Common.{ℕ, drop, get_or, ◌≡◌, ◌+◌, ◌≤◌, Bool, true, false, List, [], ◌∷◌, ◌++◌, length, take, Option, Some}
+use Rattle.std.proofs.Common.{None, Result, Ok, Err, refl, sym, ap, subst, ◌∙◌, arith, inl, inr}
 use Rattle.std.specs.Prelude.{slice_get}
 use Rattle.std.specs.Result.{IsErrAnd}
 use Rattle.std.proofs.lemmas.Grind.{common_steps}
@@ -61,7 +62,8 @@ same_err x y e = cc
 pub no_ok_err : {A E : Type 0} (x : A) (y : E) → Ok x ≡ Err y → ⊥
 no_ok_err x y e = cc
 
-pub sole_chain : {A B : Type 0} (first : Outcome A) (second : A → Outcome B) → Sole first → ((value : A) → Sole (second value)) → Sole (first >>= second)
+pub sole_chain : {A B : Type 0} (first : Outcome A) (second : A → Outcome B) → Sole first → ((value : A) → Sole (second value))
+    → Sole (first >>= second)
 sole_chain first second one each r s (inl h) (inl k) =
     h.2 ∙ ap (λ (f : Fault). Err f) (same_err h.0 k.0 (one (Err h.0) (Err k.0) h.1 k.1)) ∙ sym k.2
 sole_chain first second one each r s (inl h) (inr k) = absurd (no_ok_err k.0 h.0 (one (Ok k.0) (Err h.0) k.1 h.1))
@@ -70,7 +72,8 @@ sole_chain first second one each r s (inr h) (inr k) =
     let same = same_ok h.0 k.0 (one (Ok h.0) (Ok k.0) h.1 k.1) in
     each k.0 r s (subst (λ (v : _). second v r) same h.2) k.2
 
-pub sole_in_turn : {A B : Type 0} (read : ℕ → A → Outcome B) (each : (place : ℕ) (x : A) → Sole (read place x)) (place : ℕ) (xs : List A) → Sole (in_turn read place xs)
+pub sole_in_turn : {A B : Type 0} (read : ℕ → A → Outcome B) (each : (place : ℕ) (x : A) → Sole (read place x)) (place : ℕ) (xs : List A)
+    → Sole (in_turn read place xs)
 sole_in_turn read each place [] = sole_gives []
 sole_in_turn read each place (x ∷ xs) =
     sole_chain (read place x) _ (each place x)
@@ -98,7 +101,8 @@ turn_stops read place (y ∷ ys) x after values fault (inr (value, first, inr mo
 
 -- one item more
 turn_more : {A B : Type 0} (read : ℕ → A → Outcome B) (place : ℕ) (before : List A) (x : A) (values : List B) (value : B)
-    → in_turn read place before (Ok values) → read (place + length before) x (Ok value) → in_turn read place (before ++ x ∷ []) (Ok (values ++ value ∷ []))
+    → in_turn read place before (Ok values) → read (place + length before) x (Ok value)
+    → in_turn read place (before ++ x ∷ []) (Ok (values ++ value ∷ []))
 turn_more read place [] x values value h k =
     let here : read place x (Ok value) = subst (λ (n : ℕ). read n x (Ok value)) (omega arith) k in
     inr (value, here, inr ([], refl, ap (λ (vs : List _). Ok (vs ++ value ∷ [])) (same_ok values [] h)))
@@ -128,8 +132,10 @@ cut_at xs i x at =
     )
 
 -- the entry at the place tells a fault, and those before it have values: the list's first fault
-pub entries_stop : {A : Type 0} (read : List ℕ → Data → Outcome A) (path : List ℕ) (list : List Data) (i : ℕ) (d : Data) (values : List A) (told : Option Fault)
-    → entries read path (take i list) (Ok values) → slice_get list i ≡ Some d → IsToldBy (read (entry_of path i) d) told → IsToldBy (entries read path list) told
+pub entries_stop : {A : Type 0} (read : List ℕ → Data → Outcome A) (path : List ℕ) (list : List Data) (i : ℕ) (d : Data) (values : List A)
+    (told : Option Fault)
+    → entries read path (take i list) (Ok values) → slice_get list i ≡ Some d → IsToldBy (read (entry_of path i) d) told
+    → IsToldBy (entries read path list) told
 entries_stop read path list i d values None h at k = tt
 entries_stop read path list i d values (Some fault) h at k =
     let (whole, long, more) = cut_at list i d at in

@@ -4,12 +4,13 @@ use Rattle.std.proofs.lemmas.List.{length-map}
 use Rattle.std.specs.Prelude.{Bool, IfOk, IfErr, ◌⊎◌}
 use Rattle.toml.specs.Data.{Members}
 use Rattle.arbac_policy.specs.Rules.{IsPolicy, AreCountable, policy_of}
-use Rattle.policy_text.specs.Runs.{plain_rule}
+use Rattle.arbac_policy.specs.PlainRules.{plain_rule}
 use Rattle.question_text.specs.declared.reading.Roles.{Roles}
 use Rattle.question_text.specs.declared.reading.Rules.{Rules}
 use Rattle.question_text.specs.declared.question.Question.{Question}
 use Rattle.question_text.specs.declared.question_error.QuestionError.{QuestionError}
-use Rattle.question_text.specs.declared.question_error.QuestionError.TheVariants.{NotToml, Missing, WrongKind, UnknownRole, Order, Cond, MixedRole, TooMany, TooWide, UnknownKey, Memory}
+use Rattle.question_text.specs.declared.question_error.QuestionError.TheVariants.{NotToml, Missing, WrongKind, UnknownRole, Order, Cond, MixedRole, TooMany}
+use Rattle.question_text.specs.declared.question_error.QuestionError.TheVariants.{TooWide, UnknownKey, Memory}
 use Rattle.question_text.specs.Outcomes.{Fault}
 use Rattle.question_text.specs.Values.{QuestionValue, plain_of}
 use Rattle.question_text.specs.Documents.{HeadValue, the_roles, the_rules, document}
@@ -53,11 +54,13 @@ few_read head table roles rules h k =
 
 -- what an answer is, whichever way it is asked
 
-pub value_of : (need_goal : Bool) (bytes : List ℕ) (result : Result Question QuestionError) → Answers plain_of (document need_goal bytes) result → IfOk result (λ q. document need_goal bytes (Ok (plain_of q)))
+pub value_of : (need_goal : Bool) (bytes : List ℕ) (result : Result Question QuestionError) → Answers plain_of (document need_goal bytes) result
+    → IfOk result (λ q. document need_goal bytes (Ok (plain_of q)))
 value_of need_goal bytes (Ok q) h = h
 value_of need_goal bytes (Err e) h = tt
 
-pub kept_of : (need_goal : Bool) (bytes : List ℕ) (result : Result Question QuestionError) → Answers plain_of (document need_goal bytes) result → IfOk result (λ q. KeepsRules (plain_of q))
+pub kept_of : (need_goal : Bool) (bytes : List ℕ) (result : Result Question QuestionError) → Answers plain_of (document need_goal bytes) result
+    → IfOk result (λ q. KeepsRules (plain_of q))
 kept_of need_goal bytes (Ok q) h = document_kept need_goal bytes (plain_of q) h
 kept_of need_goal bytes (Err e) h = tt
 

@@ -1,27 +1,30 @@
 -- A document comes to one question or to one fault.
-use Rattle.std.proofs.Common.{ℕ, ◌≡◌, ◌*◌, Bool, true, false, List, [], ◌∷◌, Option, Some, None, Ok, Err, sym, ap, ◌∙◌, inl, inr}
+use Rattle.std.proofs.Common.{ℕ, ◌≡◌, Bool, true, false, List, [], ◌∷◌, Option, Some, None, Ok, Err, sym, ap, ◌∙◌, inl, inr}
 use Rattle.std.specs.Prelude.{codes, position, length}
 use Rattle.toml.specs.Data.{Data, Members, get_member, as_str, as_bool, as_table}
 use Rattle.role_order.specs.declared.order.OrderError.{OrderError}
 use Rattle.role_order.specs.Names.{place_of}
 use Rattle.arbac_policy.specs.Truth.{Term}
-use Rattle.arbac_rules.specs.Widths.{width}
+use Rattle.arbac_rules.specs.Widths.{width, too_many}
 use Rattle.cond_text.specs.declared.cond_error.CondError.{CondError}
 use Rattle.cond_text.specs.Words.{words, placed_words}
 use Rattle.cond_text.proofs.CompleteLemmas.{one_term}
 use Rattle.cond_text.proofs.FaultLemmas.{one_fault}
 use Rattle.cond_text.proofs.JudgeLemmas.{clash}
-use Rattle.policy_text.specs.LineForms.{NamedRange, IsNamedRange, spell_range}
-use Rattle.policy_text.specs.Runs.{AssignRule}
-use Rattle.policy_text.specs.Spelling.{range_in}
-use Rattle.policy_text.specs.declared.TheConstants.{MOST_EDGES, MOST_RULES, MOST_GOALS}
-use Rattle.policy_text.proofs.FormLemmas.{range_found}
-use Rattle.policy_text.proofs.OrderLemmas.{order_clash, refusal_one}
+use Rattle.cond_text.specs.Ranges.{NamedRange, IsNamedRange, spell_range, range_in}
+use Rattle.arbac_policy.specs.PlainRules.{AssignRule}
+use Rattle.arbac_policy.specs.declared.TheConstants.{MOST_EDGES, MOST_RULES, MOST_GOALS}
+use Rattle.cond_text.proofs.RangeLemmas.{range_found}
+use Rattle.cond_text.proofs.OrderLemmas.{order_clash, refusal_one}
 use Rattle.question_text.specs.declared.TheConstants.{MOST_PAIRS, MOST_PROFILES}
 use Rattle.question_text.specs.Outcomes.{no_order, no_cond, Outcome}
-use Rattle.question_text.specs.Keys.{toml_of, as_list, as_two_texts, as_two_different_texts, as_version, as_most, as_filled_list, must_be, required, may_be, optional, of_kind, unless_unknown, first_unknown, knows_only, at_most, entries, key_of}
-use Rattle.question_text.specs.Roles.{a_text, found, role_named, a_role, role_set, is_order, role_names, admin_list, admin_roles, both_roles, an_edge, a_pair, is_mixed, unless_mixed, not_mixed, listed_roles, role_edges, exclusive_pairs}
-use Rattle.question_text.specs.Tables.{a_condition, a_named_range, a_range, the_admin, the_condition, the_range, not_mixed_rule, not_wide, assign_parts, assign_tests, an_assign_rule, revoke_parts, a_revoke_rule, tables, assign_rules, revoke_rules, a_profile, profiles, a_goal_condition, not_wide_goal, a_goal, may_be_goal, the_goal}
+use Rattle.question_text.specs.Keys.{toml_of, as_list, as_two_texts, as_two_different_texts, as_version, as_most, as_filled_list, must_be, required, may_be}
+use Rattle.question_text.specs.Keys.{optional, of_kind, unless_unknown, first_unknown, knows_only, at_most, entries, key_of}
+use Rattle.question_text.specs.Roles.{a_text, found, role_named, a_role, role_set, is_order, role_names, admin_list, admin_roles, both_roles, an_edge}
+use Rattle.question_text.specs.Roles.{a_pair, is_mixed, unless_mixed, not_mixed, listed_roles, role_edges, exclusive_pairs}
+use Rattle.question_text.specs.Tables.{a_condition, a_named_range, a_range, the_admin, the_condition, the_range, not_mixed_rule, not_wide, assign_parts}
+use Rattle.question_text.specs.Tables.{assign_tests, an_assign_rule, revoke_parts, a_revoke_rule, tables, assign_rules, revoke_rules, a_profile, profiles}
+use Rattle.question_text.specs.Tables.{a_goal_condition, unless_wide, not_wide_goal, a_goal, may_be_goal, the_goal}
 use Rattle.question_text.specs.Documents.{known_keys, HeadValue, the_head, the_roles, the_rules, question, if_toml, document}
 use Rattle.question_text.proofs.OutcomeLemmas.{Sole, sole_gives, sole_fails, sole_fails_if, sole_chain, sole_entries, sole_of_kind}
 
@@ -64,7 +67,8 @@ sole_a_role : (names : List (List ℕ)) (path : List ℕ) (d : Data) → Sole (a
 sole_a_role names path d = sole_chain (of_kind (as_str d) path) (role_named names path) (sole_of_kind (as_str d) path) (sole_role_named names path)
 
 sole_role_set : (names : List (List ℕ)) (path : List ℕ) (list : List Data) → Sole (role_set names path list)
-sole_role_set names path list = sole_chain (entries (a_role names) path list) _ (sole_entries (a_role names) path list (sole_a_role names)) (λ roles. sole_gives _)
+sole_role_set names path list =
+    sole_chain (entries (a_role names) path list) _ (sole_entries (a_role names) path list (sole_a_role names)) (λ roles. sole_gives _)
 
 sole_is_order : (names : List (List ℕ)) (edges : List (ℕ × ℕ)) → Sole (is_order names edges)
 sole_is_order names edges r s (inl h) (inl k) = h.1 ∙ sym k.1
@@ -93,7 +97,8 @@ sole_both_roles names path texts =
     (λ first. sole_chain (role_named names path texts.1) _ (sole_role_named names path texts.1) (λ second. sole_gives (first, second)))
 
 sole_an_edge : (names : List (List ℕ)) (path : List ℕ) (d : Data) → Sole (an_edge names path d)
-sole_an_edge names path d = sole_chain (of_kind (as_two_texts d) path) (both_roles names path) (sole_of_kind (as_two_texts d) path) (sole_both_roles names path)
+sole_an_edge names path d =
+    sole_chain (of_kind (as_two_texts d) path) (both_roles names path) (sole_of_kind (as_two_texts d) path) (sole_both_roles names path)
 
 sole_a_pair : (names : List (List ℕ)) (path : List ℕ) (d : Data) → Sole (a_pair names path d)
 sole_a_pair names path d =
@@ -117,10 +122,12 @@ sole_listed most read separate admins key table each =
 
 sole_role_edges : (separate : Bool) (admins : List ℕ) (names : List (List ℕ)) (table : Members) → Sole (role_edges separate admins names table)
 sole_role_edges separate admins names table =
-    sole_chain (listed_roles MOST_EDGES (an_edge names) separate admins (codes "edges") table) _ (sole_listed MOST_EDGES (an_edge names) separate admins (codes "edges") table (sole_an_edge names))
+    sole_chain (listed_roles MOST_EDGES (an_edge names) separate admins (codes "edges") table) _
+    (sole_listed MOST_EDGES (an_edge names) separate admins (codes "edges") table (sole_an_edge names))
     (λ edges. sole_chain (is_order names edges) _ (sole_is_order names edges) (λ done. sole_gives edges))
 
-sole_exclusive_pairs : (version : ℕ) (separate : Bool) (admins : List ℕ) (names : List (List ℕ)) (table : Members) → Sole (exclusive_pairs version separate admins names table)
+sole_exclusive_pairs : (version : ℕ) (separate : Bool) (admins : List ℕ) (names : List (List ℕ)) (table : Members)
+    → Sole (exclusive_pairs version separate admins names table)
 sole_exclusive_pairs version separate admins names table =
     sole_chain _ (λ fits. listed_roles MOST_PAIRS (a_pair names) separate admins (codes "exclusive") table) (sole_fails_if _ _)
     (λ fits. sole_listed MOST_PAIRS (a_pair names) separate admins (codes "exclusive") table (sole_a_pair names))
@@ -156,7 +163,8 @@ sole_the_admin names rule path =
 
 sole_the_condition : (names : List (List ℕ)) (rule : Members) (path : List ℕ) → Sole (the_condition names rule path)
 sole_the_condition names rule path =
-    sole_chain (required as_str rule path (codes "condition")) (a_condition names (key_of path (codes "condition"))) (sole_required as_str rule path (codes "condition"))
+    sole_chain (required as_str rule path (codes "condition")) (a_condition names (key_of path (codes "condition")))
+    (sole_required as_str rule path (codes "condition"))
     (sole_a_condition names (key_of path (codes "condition")))
 
 sole_the_range : (names : List (List ℕ)) (rule : Members) (path : List ℕ) → Sole (the_range names rule path)
@@ -166,16 +174,19 @@ sole_the_range names rule path =
 
 sole_assign_parts : (names : List (List ℕ)) (rule : Members) (path : List ℕ) → Sole (assign_parts names rule path)
 sole_assign_parts names rule path =
-    sole_chain (knows_only (codes "admin" ∷ (codes "condition" ∷ (codes "range" ∷ []))) rule path) _ (sole_knows_only (codes "admin" ∷ (codes "condition" ∷ (codes "range" ∷ []))) rule path)
+    sole_chain (knows_only (codes "admin" ∷ (codes "condition" ∷ (codes "range" ∷ []))) rule path) _
+    (sole_knows_only (codes "admin" ∷ (codes "condition" ∷ (codes "range" ∷ []))) rule path)
     (λ known. sole_chain (the_admin names rule path) _ (sole_the_admin names rule path)
     (λ admin. sole_chain (the_condition names rule path) _ (sole_the_condition names rule path)
     (λ cond. sole_chain (the_range names rule path) _ (sole_the_range names rule path) (λ range. sole_gives _))))
 
 sole_assign_tests : (separate : Bool) (admins : List ℕ) (rule : AssignRule) (path : List ℕ) → Sole (assign_tests separate admins rule path)
 sole_assign_tests separate admins rule path =
-    sole_chain (not_wide rule.cond path) (λ narrow. not_mixed_rule separate admins rule.admin rule.range (Some rule.cond) path) (sole_fails_if _ _) (λ narrow. sole_fails_if _ _)
+    sole_chain (not_wide rule.cond path) (λ narrow. not_mixed_rule separate admins rule.admin rule.range (Some rule.cond) path) (sole_fails_if _ _)
+    (λ narrow. sole_fails_if _ _)
 
-sole_assign : (separate : Bool) (admins : List ℕ) (names : List (List ℕ)) (path : List ℕ) (d : Data) → Sole (an_assign_rule separate admins names path d)
+sole_assign : (separate : Bool) (admins : List ℕ) (names : List (List ℕ)) (path : List ℕ) (d : Data)
+    → Sole (an_assign_rule separate admins names path d)
 sole_assign separate admins names path d =
     sole_chain (of_kind (as_table d) path) _ (sole_of_kind (as_table d) path)
     (λ table. sole_chain (assign_parts names table path) _ (sole_assign_parts names table path)
@@ -202,25 +213,27 @@ sole_tables most read table key each =
 sole_profile : (names : List (List ℕ)) (path : List ℕ) (d : Data) → Sole (a_profile names path d)
 sole_profile names path d =
     sole_chain (of_kind (as_table d) path) _ (sole_of_kind (as_table d) path)
-    (λ profile. sole_chain (knows_only (codes "roles" ∷ (codes "most" ∷ [])) profile path) _ (sole_knows_only (codes "roles" ∷ (codes "most" ∷ [])) profile path)
+    (λ profile. sole_chain (knows_only (codes "roles" ∷ (codes "most" ∷ [])) profile path) _
+    (sole_knows_only (codes "roles" ∷ (codes "most" ∷ [])) profile path)
     (λ known. sole_chain (required as_list profile path (codes "roles")) _ (sole_required as_list profile path (codes "roles"))
     (λ list. sole_chain (role_set names (key_of path (codes "roles")) list) _ (sole_role_set names (key_of path (codes "roles")) list)
-    (λ set. sole_chain (optional as_most None profile path (codes "most")) _ (sole_optional as_most None profile path (codes "most")) (λ most. sole_gives _)))))
+    (λ set. sole_chain (optional as_most None profile path (codes "most")) _ (sole_optional as_most None profile path (codes "most"))
+    (λ most. sole_gives _)))))
 
 sole_goal_condition : (names : List (List ℕ)) (path : List ℕ) (d : Data) → Sole (a_goal_condition names path d)
 sole_goal_condition names path d = sole_chain (of_kind (as_str d) path) (a_condition names path) (sole_of_kind (as_str d) path) (sole_a_condition names path)
 
-sole_not_wide_goal : (combinations : ℕ) (conds : List Term) → Sole (not_wide_goal combinations conds)
-sole_not_wide_goal combinations [] = sole_gives tt
-sole_not_wide_goal combinations (cond ∷ conds) =
-    sole_chain _ (λ narrow. not_wide_goal (combinations * width cond) conds) (sole_fails_if _ _) (λ narrow. sole_not_wide_goal (combinations * width cond) conds)
+sole_unless_wide : (count : Option ℕ) → Sole (unless_wide count)
+sole_unless_wide None = sole_gives tt
+sole_unless_wide (Some count) = sole_fails _
 
 sole_a_goal : (names : List (List ℕ)) (d : Data) → Sole (a_goal names d)
 sole_a_goal names d =
     sole_chain (of_kind (as_filled_list d) (codes "goal")) _ (sole_of_kind (as_filled_list d) (codes "goal"))
     (λ list. sole_chain (at_most MOST_GOALS (codes "goal") list) _ (sole_at_most MOST_GOALS (codes "goal") list)
-    (λ few. sole_chain (entries (a_goal_condition names) (codes "goal") list) _ (sole_entries (a_goal_condition names) (codes "goal") list (sole_goal_condition names))
-    (λ conds. sole_chain (not_wide_goal 1 conds) _ (sole_not_wide_goal 1 conds) (λ narrow. sole_gives conds))))
+    (λ few. sole_chain (entries (a_goal_condition names) (codes "goal") list) _
+    (sole_entries (a_goal_condition names) (codes "goal") list (sole_goal_condition names))
+    (λ conds. sole_chain (not_wide_goal conds) _ (sole_unless_wide (too_many conds)) (λ narrow. sole_gives conds))))
 
 sole_may_be_goal : (need_goal : Bool) (names : List (List ℕ)) (d : Option Data) → Sole (may_be_goal need_goal names d)
 sole_may_be_goal true names None = sole_fails _
@@ -244,14 +257,19 @@ sole_roles head table =
     sole_chain (role_names table) _ (sole_role_names table)
     (λ names. sole_chain (admin_roles head.separate names table) _ (sole_admin_roles head.separate names table)
     (λ admins. sole_chain (role_edges head.separate admins names table) _ (sole_role_edges head.separate admins names table)
-    (λ edges. sole_chain (exclusive_pairs head.version head.separate admins names table) _ (sole_exclusive_pairs head.version head.separate admins names table) (λ exclusive. sole_gives _))))
+    (λ edges. sole_chain (exclusive_pairs head.version head.separate admins names table) _
+    (sole_exclusive_pairs head.version head.separate admins names table) (λ exclusive. sole_gives _))))
 
 sole_rules : (separate : Bool) (admins : List ℕ) (names : List (List ℕ)) (table : Members) → Sole (the_rules separate admins names table)
 sole_rules separate admins names table =
-    sole_chain (assign_rules separate admins names table (codes "can_assign")) _ (sole_tables MOST_RULES _ table (codes "can_assign") (sole_assign separate admins names))
-    (λ assign. sole_chain (revoke_rules separate admins names table (codes "can_revoke")) _ (sole_tables MOST_RULES _ table (codes "can_revoke") (sole_revoke separate admins names))
-    (λ revoke. sole_chain (assign_rules separate admins names table (codes "can_assignp")) _ (sole_tables MOST_RULES _ table (codes "can_assignp") (sole_assign separate admins names))
-    (λ assignp. sole_chain (revoke_rules separate admins names table (codes "can_revokep")) _ (sole_tables MOST_RULES _ table (codes "can_revokep") (sole_revoke separate admins names)) (λ revokep. sole_gives _))))
+    sole_chain (assign_rules separate admins names table (codes "can_assign")) _
+    (sole_tables MOST_RULES _ table (codes "can_assign") (sole_assign separate admins names))
+    (λ assign. sole_chain (revoke_rules separate admins names table (codes "can_revoke")) _
+    (sole_tables MOST_RULES _ table (codes "can_revoke") (sole_revoke separate admins names))
+    (λ revoke. sole_chain (assign_rules separate admins names table (codes "can_assignp")) _
+    (sole_tables MOST_RULES _ table (codes "can_assignp") (sole_assign separate admins names))
+    (λ assignp. sole_chain (revoke_rules separate admins names table (codes "can_revokep")) _
+    (sole_tables MOST_RULES _ table (codes "can_revokep") (sole_revoke separate admins names)) (λ revokep. sole_gives _))))
 
 sole_question : (need_goal : Bool) (table : Members) → Sole (question need_goal table)
 sole_question need_goal table =

@@ -1,9 +1,11 @@
 -- How a call's result answers an outcome.
 use Rattle.std.specs.Prelude.{◌≡◌, ◌⊎◌, Result, Ok, Err, Option, Some, None, string_bytes}
 use Rattle.question_text.specs.declared.question_error.QuestionError.{QuestionError}
-use Rattle.question_text.specs.declared.question_error.QuestionError.TheVariants.{NotToml, Missing, WrongKind, UnknownRole, Order, Cond, MixedRole, TooMany, TooWide, UnknownKey, Memory}
+use Rattle.question_text.specs.declared.question_error.QuestionError.TheVariants.{NotToml, Missing, WrongKind, UnknownRole, Order, Cond, MixedRole, TooMany}
+use Rattle.question_text.specs.declared.question_error.QuestionError.TheVariants.{TooWide, UnknownKey, Memory}
 use Rattle.question_text.specs.declared.question.Question.{Question}
-use Rattle.question_text.specs.Outcomes.{Fault, not_toml, missing, wrong_kind, unknown_role, no_order, no_cond, mixed_role, too_many, too_wide, unknown_key, Outcome}
+use Rattle.question_text.specs.Outcomes.{Fault, not_toml, missing, wrong_kind, unknown_role, no_order, no_cond, mixed_role, too_many, too_wide, unknown_key}
+use Rattle.question_text.specs.Outcomes.{Outcome}
 use Rattle.question_text.specs.Values.{QuestionValue, plain_of}
 
 -- the fault that an error tells; want of memory is none
@@ -20,6 +22,7 @@ fault_of (TooWide key count) = Some (too_wide (string_bytes key) count)
 fault_of (UnknownKey key) = Some (unknown_key (string_bytes key))
 fault_of Memory = None
 
+-- the outcome may be the fault, if one is told
 abbrev pub IsToldBy : {A : Type 0} → Outcome A → Option Fault → Type 0
 IsToldBy outcome None = Unit {0}
 IsToldBy outcome (Some fault) = outcome (Err fault)

@@ -4,7 +4,7 @@ use Rattle.toml.specs.Data.{Members, as_bool}
 use Rattle.arbac_policy.specs.declared.rule.CanRevoke.{CanRevoke}
 use Rattle.arbac_policy.specs.declared.profile.Profile.{Profile}
 use Rattle.arbac_policy.specs.Truth.{Term}
-use Rattle.policy_text.specs.Runs.{AssignRule}
+use Rattle.arbac_policy.specs.PlainRules.{AssignRule}
 use Rattle.question_text.specs.Outcomes.{not_toml, Outcome, gives, fails, ◌>>=◌}
 use Rattle.question_text.specs.Values.{QuestionValue}
 use Rattle.question_text.specs.Keys.{toml_of, as_version, required, knows_only}
@@ -36,6 +36,7 @@ pub record RulesValue : Type 0 where
   pub assignp : List AssignRule
   pub revokep : List CanRevoke
 
+-- what the keys of the head come to
 abbrev pub the_head : Members → Outcome HeadValue
 the_head table = do
   known ← knows_only known_keys table []
@@ -43,6 +44,7 @@ the_head table = do
   separate ← required as_bool table [] (codes "separate")
   gives (record { version = version; separate = separate })
 
+-- what the keys of roles, edges and pairs come to
 abbrev pub the_roles : HeadValue → Members → Outcome RolesValue
 the_roles head table = do
   names ← role_names table
@@ -51,6 +53,7 @@ the_roles head table = do
   exclusive ← exclusive_pairs head.version head.separate admins names table
   gives (record { names = names; admins = admins; edges = edges; exclusive = exclusive })
 
+-- what the four tables of rules come to
 abbrev pub the_rules : Bool → List ℕ → List (List ℕ) → Members → Outcome RulesValue
 the_rules separate admins names table = do
   assign ← assign_rules separate admins names table (codes "can_assign")
@@ -59,6 +62,7 @@ the_rules separate admins names table = do
   revokep ← revoke_rules separate admins names table (codes "can_revokep")
   gives (record { assign = assign; revoke = revoke; assignp = assignp; revokep = revokep })
 
+-- the question that the groups make with profiles and goal
 abbrev pub question_of : HeadValue → RolesValue → RulesValue → List Profile → List Term → QuestionValue
 question_of head roles rules profiles goal = record {
   separate = head.separate;
@@ -84,6 +88,7 @@ question need_goal table = do
   goal ← the_goal need_goal roles.names table
   gives (question_of head roles rules profiles goal)
 
+-- the table, or the fault that the bytes are no TOML
 abbrev pub if_toml : Option Members → Outcome Members
 if_toml None = fails not_toml
 if_toml (Some table) = gives table

@@ -1,5 +1,6 @@
 -- Keys, and the kinds of their values.
-use Rattle.std.specs.Prelude.{ℕ, ℤ, pos, ◌==◌, ◌||◌, nat_lt, nat_le, if◌then◌else◌, List, [], ◌∷◌, ◌++◌, length, Option, Some, None, option_map, option_and_then, codes}
+use Rattle.std.specs.Prelude.{ℕ, ℤ, pos, ◌==◌, ◌||◌, nat_lt, nat_le, if◌then◌else◌, List, [], ◌∷◌, ◌++◌, length, Option, Some}
+use Rattle.std.specs.Prelude.{None, option_map, option_and_then, codes}
 use Rattle.std.specs.Fmt.{decimal}
 use Rattle.std.specs.List.{list_any}
 use Rattle.std.specs.Str.{bytes_eq, is_utf8}
@@ -10,24 +11,27 @@ use Rattle.question_text.specs.Outcomes.{wrong_kind, missing, unknown_key, too_m
 
 -- the path of the entry at a place of a list
 abbrev pub entry_of : List ℕ → ℕ → List ℕ
-entry_of path place = path ++ (46 ∷ decimal place)
+entry_of path place = path ++ (codes "." ++ decimal place)
 
 -- the path of a key of a table; before the document's own keys stands none
 abbrev pub key_of : List ℕ → List ℕ → List ℕ
 key_of [] key = key
-key_of (b ∷ path) key = (b ∷ path) ++ (46 ∷ key)
+key_of (b ∷ path) key = (b ∷ path) ++ (codes "." ++ key)
 
 -- the table that the bytes are as TOML
 abbrev pub toml_of : List ℕ → Option Members
 toml_of bytes = if is_utf8 bytes then parse_document bytes else None
 
+-- the entries of a list
 abbrev pub list_of : Items → List Data
 list_of no_items = []
 list_of (item d ds) = d ∷ list_of ds
 
+-- the value as a list
 abbrev pub as_list : Data → Option (List Data)
 as_list d = option_map list_of (as_array d)
 
+-- a list with an entry
 abbrev pub filled : List Data → Option (List Data)
 filled [] = None
 filled (d ∷ ds) = Some (d ∷ ds)
@@ -36,6 +40,7 @@ filled (d ∷ ds) = Some (d ∷ ds)
 abbrev pub as_filled_list : Data → Option (List Data)
 as_filled_list d = option_and_then filled (as_list d)
 
+-- the two texts of a list of two
 abbrev pub both_texts : List Data → Option (List ℕ × List ℕ)
 both_texts [] = None
 both_texts (d ∷ []) = None
@@ -46,6 +51,7 @@ both_texts (d ∷ (e ∷ (f ∷ more))) = None
 abbrev pub as_two_texts : Data → Option (List ℕ × List ℕ)
 as_two_texts d = option_and_then both_texts (as_list d)
 
+-- two texts that differ
 abbrev pub if_different : List ℕ × List ℕ → Option (List ℕ × List ℕ)
 if_different texts = if bytes_eq texts.0 texts.1 then None else Some texts
 
@@ -53,6 +59,7 @@ if_different texts = if bytes_eq texts.0 texts.1 then None else Some texts
 abbrev pub as_two_different_texts : Data → Option (List ℕ × List ℕ)
 as_two_different_texts d = option_and_then if_different (as_two_texts d)
 
+-- a number from 0 up
 abbrev pub unsigned : ℤ → Option ℕ
 unsigned (pos n) = Some n
 unsigned _ = None
@@ -61,6 +68,7 @@ unsigned _ = None
 abbrev pub as_count : Data → Option ℕ
 as_count d = option_and_then unsigned (as_integer d)
 
+-- 1 or 2
 abbrev pub if_version : ℕ → Option ℕ
 if_version n = if (n == 1) || (n == 2) then Some n else None
 
@@ -68,12 +76,15 @@ if_version n = if (n == 1) || (n == 2) then Some n else None
 abbrev pub as_version : Data → Option ℕ
 as_version d = option_and_then if_version (as_count d)
 
+-- the text `any`: any number
 abbrev pub if_any : List ℕ → Option (Option ℕ)
 if_any text = if bytes_eq text (codes "any") then Some None else None
 
+-- a number within the limit
 abbrev pub if_few : ℕ → Option (Option ℕ)
 if_few n = if nat_le n MOST_OF_PROFILE then Some (Some n) else None
 
+-- a number within the limit, or `any`
 abbrev pub or_any : Option ℕ → Data → Option (Option ℕ)
 or_any None d = option_and_then if_any (as_str d)
 or_any (Some n) d = if_few n
@@ -87,6 +98,7 @@ abbrev pub of_kind : {A : Type 0} → Option A → List ℕ → Outcome A
 of_kind None path = fails (wrong_kind path)
 of_kind (Some value) path = gives value
 
+-- the value of a key that must be there
 abbrev pub must_be : {A : Type 0} → (Data → Option A) → List ℕ → Option Data → Outcome A
 must_be kind path None = fails (missing path)
 must_be kind path (Some d) = of_kind (kind d) path
@@ -95,6 +107,7 @@ must_be kind path (Some d) = of_kind (kind d) path
 abbrev pub required : {A : Type 0} → (Data → Option A) → Members → List ℕ → List ℕ → Outcome A
 required kind table path key = must_be kind (key_of path key) (get_member key table)
 
+-- the value of a key, or what an absent one stands for
 abbrev pub may_be : {A : Type 0} → (Data → Option A) → A → List ℕ → Option Data → Outcome A
 may_be kind absent path None = gives absent
 may_be kind absent path (Some d) = of_kind (kind d) path
@@ -108,6 +121,7 @@ abbrev pub first_unknown : List (List ℕ) → Members → Option (List ℕ)
 first_unknown known no_members = None
 first_unknown known (member key d more) = if list_any (bytes_eq key) known then first_unknown known more else Some key
 
+-- a fault where there is an unknown key
 abbrev pub unless_unknown : List ℕ → Option (List ℕ) → Outcome (Unit {0})
 unless_unknown path None = gives tt
 unless_unknown path (Some key) = fails (unknown_key (key_of path key))

@@ -1,20 +1,23 @@
 -- Roles by their names: the lists of roles, edges and pairs of a document.
-use Rattle.std.specs.Prelude.{ℕ, ◌≡◌, ◌==◌, Bool, true, false, not, ◌||◌, ◌&&◌, List, [], Option, Some, None, position, codes, Ok, Err, ◌⊎◌}
+use Rattle.std.specs.Prelude.{ℕ, ◌≡◌, ◌==◌, Bool, true, false, not, ◌||◌, ◌&&◌, List, [], Option, Some, None, position, codes, Ok, Err}
+use Rattle.std.specs.Prelude.{◌⊎◌}
 use Rattle.toml.specs.Data.{Data, Members, get_member, as_str}
 use Rattle.role_order.specs.declared.order.OrderError.{OrderError}
 use Rattle.role_order.specs.declared.order.OrderError.TheVariants.{Memory}
 use Rattle.role_order.specs.Names.{place_of}
 use Rattle.role_order.specs.Roles.{has_role}
 use Rattle.role_order.specs.Refusals.{IsOrder, IsRefused}
-use Rattle.policy_text.specs.declared.TheConstants.{MOST_EDGES}
-use Rattle.policy_text.specs.Runs.{set_of}
+use Rattle.arbac_policy.specs.declared.TheConstants.{MOST_EDGES}
+use Rattle.cond_text.specs.Named.{set_of}
 use Rattle.question_text.specs.declared.TheConstants.{MOST_PAIRS}
 use Rattle.question_text.specs.Outcomes.{wrong_kind, unknown_role, no_order, mixed_role, Outcome, gives, fails, fails_if, ◌>>=◌}
 use Rattle.question_text.specs.Keys.{as_list, as_two_texts, as_two_different_texts, of_kind, required, optional, at_most, entries, entry_of}
 
+-- the value as a text
 abbrev pub a_text : List ℕ → Data → Outcome (List ℕ)
 a_text path d = of_kind (as_str d) path
 
+-- the role, or the fault that it is unknown
 abbrev pub found : List ℕ → Option ℕ → Outcome ℕ
 found path None = fails (unknown_role path)
 found path (Some role) = gives role
@@ -49,6 +52,7 @@ role_names table = do
   done ← is_order names []
   gives names
 
+-- the entries of `admin_roles`, which must be there where roles are kept apart
 abbrev pub admin_list : Bool → Members → Outcome (List Data)
 admin_list true table = required as_list table [] (codes "admin_roles")
 admin_list false table = optional as_list [] table [] (codes "admin_roles")
@@ -59,29 +63,33 @@ admin_roles separate names table = do
   list ← admin_list separate table
   role_set names (codes "admin_roles") list
 
+-- the roles of two names
 abbrev pub both_roles : List (List ℕ) → List ℕ → List ℕ × List ℕ → Outcome (ℕ × ℕ)
 both_roles names path texts = do
   first ← role_named names path texts.0
   second ← role_named names path texts.1
   gives (first, second)
 
+-- the roles that the names stand for
+abbrev pub roles_in : List (List ℕ) → List ℕ → Option (List ℕ × List ℕ) → Outcome (ℕ × ℕ)
+roles_in names path found = do
+  texts ← of_kind found path
+  both_roles names path texts
+
 -- an edge: the names of the senior role and of the junior one
 abbrev pub an_edge : List (List ℕ) → List ℕ → Data → Outcome (ℕ × ℕ)
-an_edge names path d = do
-  texts ← of_kind (as_two_texts d) path
-  both_roles names path texts
+an_edge names path d = roles_in names path (as_two_texts d)
 
 -- a pair: the names of two different roles
 abbrev pub a_pair : List (List ℕ) → List ℕ → Data → Outcome (ℕ × ℕ)
-a_pair names path d = do
-  texts ← of_kind (as_two_different_texts d) path
-  both_roles names path texts
+a_pair names path d = roles_in names path (as_two_different_texts d)
 
 -- one role is administrative, and the other isn't
 abbrev pub is_mixed : List ℕ → ℕ × ℕ → Bool
 is_mixed admins roles =
     (has_role admins roles.0 && not (has_role admins roles.1)) || (has_role admins roles.1 && not (has_role admins roles.0))
 
+-- a fault where a place is mixed
 abbrev pub unless_mixed : List ℕ → Option ℕ → Outcome (Unit {0})
 unless_mixed path None = gives tt
 unless_mixed path (Some place) = fails (mixed_role (entry_of path place))
@@ -107,6 +115,7 @@ role_edges separate admins names table = do
   done ← is_order names edges
   gives edges
 
+-- the key is there
 abbrev pub is_there : Option Data → Bool
 is_there None = false
 is_there (Some d) = true

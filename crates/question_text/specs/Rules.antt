@@ -9,10 +9,10 @@ use Rattle.arbac_policy.specs.Truth.{Term, IsKnown}
 use Rattle.arbac_policy.specs.Rules.{IsKnownRange, IsKnownPair}
 use Rattle.cond_text.specs.declared.TheConstants.{MOST_TERMS}
 use Rattle.cond_text.specs.Grammar.{term_count}
-use Rattle.policy_text.specs.declared.TheConstants.{MOST_EDGES, MOST_RULES, MOST_GOALS}
-use Rattle.policy_text.specs.Runs.{AssignRule}
+use Rattle.arbac_policy.specs.declared.TheConstants.{MOST_EDGES, MOST_RULES, MOST_GOALS}
+use Rattle.arbac_policy.specs.PlainRules.{AssignRule}
 use Rattle.arbac_rules.specs.declared.TheConstants.{MOST_CONJUNCTS}
-use Rattle.arbac_rules.specs.Widths.{width}
+use Rattle.arbac_rules.specs.Widths.{width, goal_width}
 use Rattle.question_text.specs.declared.TheConstants.{MOST_PAIRS, MOST_PROFILES, MOST_OF_PROFILE}
 use Rattle.question_text.specs.Values.{QuestionValue}
 use Rattle.question_text.specs.Roles.{is_mixed}
@@ -33,28 +33,27 @@ pub record IsCondition (count : ℕ) (cond : Term) : Type 0 where
   pub known : IsKnown count cond
   pub few : term_count cond ≤ MOST_TERMS
 
+-- each number in the rule is a role, and its condition is within the limits
 pub record IsAssignRule (count : ℕ) (rule : AssignRule) : Type 0 where
   pub admin : rule.admin < count
   pub cond : IsCondition count rule.cond
   pub range : IsKnownRange count rule.range
   pub narrow : width rule.cond ≤ MOST_CONJUNCTS
 
+-- each number in the rule is a role
 pub record IsRevokeRule (count : ℕ) (rule : CanRevoke) : Type 0 where
   pub admin : rule.admin < count
   pub range : IsKnownRange count rule.range
 
+-- the number of users is within the limit, if there is one
 abbrev pub IsMost : Option ℕ → Type 0
 IsMost None = Unit {0}
 IsMost (Some most) = most ≤ MOST_OF_PROFILE
 
+-- the profile's set and number are right
 pub record IsProfile (count : ℕ) (profile : Profile) : Type 0 where
   pub set : IsSet count profile.set
   pub most : IsMost profile.most
-
--- how many combinations there are of one conjunct of each condition
-abbrev pub combinations : List Term → ℕ
-combinations [] = 1
-combinations (cond ∷ conds) = width cond * combinations conds
 
 -- administrative roles stand with administrative ones alone, and administer rules for others
 pub record AreApart (q : QuestionValue) : Type 0 where
@@ -62,7 +61,8 @@ pub record AreApart (q : QuestionValue) : Type 0 where
   pub exclusive : Each (λ pair. is_mixed q.admin_roles pair ≡ false) q.exclusive
   pub assign : Each (λ rule. (is_mixed_rule q.admin_roles rule.admin rule.range ≡ false) × (names_admin q.admin_roles (Some rule.cond) ≡ false)) q.assign
   pub revoke : Each (λ rule. is_mixed_rule q.admin_roles rule.admin rule.range ≡ false) q.revoke
-  pub assignp : Each (λ rule. (is_mixed_rule q.admin_roles rule.admin rule.range ≡ false) × (names_admin q.admin_roles (Some rule.cond) ≡ false)) q.assignp
+  pub assignp : Each (λ rule. (is_mixed_rule q.admin_roles rule.admin rule.range ≡ false)
+      × (names_admin q.admin_roles (Some rule.cond) ≡ false)) q.assignp
   pub revokep : Each (λ rule. is_mixed_rule q.admin_roles rule.admin rule.range ≡ false) q.revokep
 
 -- as a document's question does: an order, known roles, lists within their limits, and administrative roles apart where they are kept separate
@@ -77,5 +77,5 @@ pub record KeepsRules (q : QuestionValue) : Type 0 where
   pub revokep : (length q.revokep ≤ MOST_RULES) × Each (IsRevokeRule (length q.names)) q.revokep
   pub profiles : (length q.profiles ≤ MOST_PROFILES) × Each (IsProfile (length q.names)) q.profiles
   pub goal : (length q.goal ≤ MOST_GOALS) × Each (IsCondition (length q.names)) q.goal
-  pub narrow : combinations q.goal ≤ MOST_CONJUNCTS
+  pub narrow : goal_width q.goal ≤ MOST_CONJUNCTS
   pub apart : q.separate ≡ true → AreApart q

@@ -1,5 +1,6 @@
 -- The tables of a document: administrative rules and profiles, and its goal.
-use Rattle.std.specs.Prelude.{ℕ, ◌≡◌, ◌*◌, Bool, true, false, not, ◌||◌, ◌&&◌, nat_lt, List, [], ◌∷◌, Option, Some, None, codes, Ok, Err, ◌⊎◌}
+use Rattle.std.specs.Prelude.{ℕ, ◌≡◌, Bool, true, false, not, ◌||◌, ◌&&◌, nat_lt, List, [], ◌∷◌, Option, Some, None, codes, Ok, Err}
+use Rattle.std.specs.Prelude.{◌⊎◌}
 use Rattle.toml.specs.Data.{Data, Members, get_member, as_str, as_table}
 use Rattle.role_order.specs.declared.range.Range.{Range}
 use Rattle.role_order.specs.Roles.{has_role}
@@ -8,11 +9,12 @@ use Rattle.arbac_policy.specs.declared.profile.Profile.{Profile}
 use Rattle.arbac_policy.specs.Truth.{Term, any, has, lacks, both, either}
 use Rattle.cond_text.specs.declared.cond_error.CondError.{CondError}
 use Rattle.cond_text.specs.Reading.{IsFirstOf}
-use Rattle.policy_text.specs.declared.TheConstants.{MOST_RULES, MOST_GOALS}
-use Rattle.policy_text.specs.LineForms.{NamedRange, IsNamedRange, spell_range}
-use Rattle.policy_text.specs.Runs.{AssignRule, ReadsAs}
+use Rattle.arbac_policy.specs.declared.TheConstants.{MOST_RULES, MOST_GOALS}
+use Rattle.cond_text.specs.Ranges.{NamedRange, IsNamedRange, spell_range}
+use Rattle.arbac_policy.specs.PlainRules.{AssignRule}
+use Rattle.cond_text.specs.Named.{ReadsAs}
 use Rattle.arbac_rules.specs.declared.TheConstants.{MOST_CONJUNCTS}
-use Rattle.arbac_rules.specs.Widths.{width}
+use Rattle.arbac_rules.specs.Widths.{width, too_many}
 use Rattle.question_text.specs.declared.TheConstants.{MOST_PROFILES}
 use Rattle.question_text.specs.Outcomes.{missing, wrong_kind, no_cond, mixed_role, too_wide, Outcome, gives, fails, fails_if, ◌>>=◌}
 use Rattle.question_text.specs.Keys.{as_list, as_filled_list, as_most, of_kind, required, optional, knows_only, at_most, entries, key_of}
@@ -44,11 +46,13 @@ the_admin names rule path = do
   name ← required as_str rule path (codes "admin")
   role_named names (key_of path (codes "admin")) name
 
+-- what a rule has under `condition`
 abbrev pub the_condition : List (List ℕ) → Members → List ℕ → Outcome Term
 the_condition names rule path = do
   text ← required as_str rule path (codes "condition")
   a_condition names (key_of path (codes "condition")) text
 
+-- what a rule has under `range`
 abbrev pub the_range : List (List ℕ) → Members → List ℕ → Outcome Range
 the_range names rule path = do
   text ← required as_str rule path (codes "range")
@@ -103,6 +107,7 @@ an_assign_rule separate admins names path d = do
   passed ← assign_tests separate admins rule path
   gives rule
 
+-- the values of a rule's keys
 abbrev pub revoke_parts : List (List ℕ) → Members → List ℕ → Outcome CanRevoke
 revoke_parts names rule path = do
   known ← knows_only (codes "admin" ∷ (codes "range" ∷ [])) rule path
@@ -125,9 +130,11 @@ tables most read table key = do
   few ← at_most most key list
   entries read key list
 
+-- what stands under a key of rules that give roles
 abbrev pub assign_rules : Bool → List ℕ → List (List ℕ) → Members → List ℕ → Outcome (List AssignRule)
 assign_rules separate admins names table key = tables MOST_RULES (an_assign_rule separate admins names) table key
 
+-- what stands under a key of rules that take roles
 abbrev pub revoke_rules : Bool → List ℕ → List (List ℕ) → Members → List ℕ → Outcome (List CanRevoke)
 revoke_rules separate admins names table key = tables MOST_RULES (a_revoke_rule separate admins names) table key
 
@@ -141,6 +148,7 @@ a_profile names path d = do
   most ← optional as_most None profile path (codes "most")
   gives (record { set = set; most = most })
 
+-- what stands under `profile`
 abbrev pub profiles : List (List ℕ) → Members → Outcome (List Profile)
 profiles names table = tables MOST_PROFILES (a_profile names) table (codes "profile")
 
@@ -150,13 +158,14 @@ a_goal_condition names path d = do
   text ← of_kind (as_str d) path
   a_condition names path text
 
--- of so many combinations, those with one conjunct of each condition are not too many;
--- the count that is told goes up to the first condition at which they are
-abbrev pub not_wide_goal : ℕ → List Term → Outcome (Unit {0})
-not_wide_goal combinations [] = gives tt
-not_wide_goal combinations (cond ∷ conds) = do
-  narrow ← fails_if (nat_lt MOST_CONJUNCTS (combinations * width cond)) (too_wide (codes "goal") (combinations * width cond))
-  not_wide_goal (combinations * width cond) conds
+-- the goal, where it hasn't too many requirements
+abbrev pub unless_wide : Option ℕ → Outcome (Unit {0})
+unless_wide None = gives tt
+unless_wide (Some count) = fails (too_wide (codes "goal") count)
+
+-- there aren't too many combinations of one conjunct of each condition
+abbrev pub not_wide_goal : List Term → Outcome (Unit {0})
+not_wide_goal goal = unless_wide (too_many goal)
 
 -- the conditions of a goal that is there
 abbrev pub a_goal : List (List ℕ) → Data → Outcome (List Term)
@@ -164,9 +173,10 @@ a_goal names d = do
   list ← of_kind (as_filled_list d) (codes "goal")
   few ← at_most MOST_GOALS (codes "goal") list
   conds ← entries (a_goal_condition names) (codes "goal") list
-  narrow ← not_wide_goal 1 conds
+  narrow ← not_wide_goal conds
   gives conds
 
+-- what a goal comes to that must be there, or may be absent
 abbrev pub may_be_goal : Bool → List (List ℕ) → Option Data → Outcome (List Term)
 may_be_goal true names None = fails (missing (codes "goal"))
 may_be_goal false names None = gives []

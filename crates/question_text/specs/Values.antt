@@ -3,9 +3,10 @@ use Rattle.std.specs.Prelude.{ℕ, Bool, List, map}
 use Rattle.arbac_policy.specs.declared.rule.CanRevoke.{CanRevoke}
 use Rattle.arbac_policy.specs.declared.profile.Profile.{Profile}
 use Rattle.arbac_policy.specs.Truth.{Term, term_of}
-use Rattle.policy_text.specs.Runs.{AssignRule, plain_rule}
+use Rattle.arbac_policy.specs.PlainRules.{AssignRule, plain_rule}
 use Rattle.question_text.specs.declared.question.Question.{Question}
 
+-- a question as plain data
 pub record QuestionValue : Type 0 where
   pub separate : Bool
   pub names : List (List ℕ)

@@ -8,17 +8,17 @@ ghost use Rattle.cond_text.specs.Grammar.{term_count};
 ghost use Rattle.question_text.specs.Outcomes.{seen_as};
 ghost use Rattle.question_text.specs.Keys.{list_of, entries};
 ghost use Rattle.question_text.specs.Rules.{IsCondition};
-ghost use Rattle.question_text.specs.Tables.{a_goal_condition, not_wide_goal, a_goal, the_goal as goal_of};
+ghost use Rattle.question_text.specs.Tables as tables;
+ghost use Rattle.question_text.specs.Tables.{a_goal_condition, not_wide_goal, a_goal};
 ghost use Rattle.question_text.specs.Answers.{Answers};
 
 use crate::entries::{ReadEntry, each_entry};
 use crate::keys::{at_most, filled_list, of_kind, value_at};
 use crate::question_error::QuestionError;
 use crate::rules::a_condition;
-use arbac_policy::Cond;
-use arbac_rules::{MOST_CONJUNCTS, width_of};
+use arbac_policy::{Cond, MOST_GOALS};
+use arbac_rules::too_many;
 use cond_text::MOST_TERMS;
-use policy_text::MOST_GOALS;
 use role_order::Order;
 use std::alloc::Global;
 use toml::value::Array;
@@ -53,23 +53,18 @@ impl<'o> ReadEntry for ConditionReader<'o> {
     }
 }
 
-/// Refuses conditions with too many combinations of one conjunct of each. The count goes up to the
-/// first condition at which they are too many.
+/// Refuses conditions with too many combinations of one conjunct of each.
 fn not_wide(alloc: Global, conds: &[Cond]) -> Result<(), QuestionError>
     requires { Each (λ cond. term_count (term_of cond) ≤ MOST_TERMS) conds.now }
-    ensures { Answers (λ _. tt) (not_wide_goal 1 (map term_of conds.now)) result }
+    ensures { Answers (λ _. tt) (not_wide_goal (map term_of conds.now)) result }
 {
-    let mut combinations = 1;
-    for cond in conds {
-        combinations *= width_of(cond);
-        if combinations > MOST_CONJUNCTS as u128 {
-            return Err(QuestionError::TooWide {
-                key: String::from_str(alloc, "goal")?,
-                count: combinations,
-            });
-        }
+    match too_many(conds) {
+        Some(count) => Err(QuestionError::TooWide {
+            key: String::from_str(alloc, "goal")?,
+            count,
+        }),
+        None => Ok(()),
     }
-    Ok(())
 }
 
 /// The conditions of a goal that is there.
@@ -90,7 +85,7 @@ pub fn the_goal(
     need_goal: bool,
     table: &Table,
 ) -> Result<Vec<Cond>, QuestionError>
-    ensures goal { Answers (λ conds. map term_of conds.items) (goal_of need_goal order.now.names (table_view table.now)) result }
+    ensures goal { Answers (λ conds. map term_of conds.items) (tables.the_goal need_goal order.now.names (table_view table.now)) result }
     ensures kept { IfOk result (λ conds. Each (IsCondition (length order.now.names)) (map term_of conds.items)) }
 {
     match value_at(table, "goal") {

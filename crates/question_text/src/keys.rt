@@ -6,7 +6,8 @@ ghost use Rattle.std.specs.Str.{bytes_eq};
 ghost use Rattle.toml.specs.View.{table_view, array_view, view};
 ghost use Rattle.toml.specs.Data.{get_member, as_bool, as_str};
 ghost use Rattle.question_text.specs.Keys.{key_of, entry_of, toml_of, list_of, as_list, as_filled_list, as_two_texts, as_version, as_most, first_unknown};
-ghost use Rattle.question_text.specs.Keys.{of_kind as kind, required, optional, knows_only as knows, at_most as few};
+ghost use Rattle.question_text.specs.Keys as keys;
+ghost use Rattle.question_text.specs.Keys.{required, optional};
 ghost use Rattle.question_text.specs.Documents.{if_toml};
 ghost use Rattle.question_text.specs.Answers.{Answers};
 ghost use Rattle.question_text.specs.Views.{entries_of};
@@ -76,7 +77,7 @@ fn required_value<'t>(
 
 /// The value where it is of the kind that the path asks for.
 pub fn of_kind<T>(alloc: Global, value: Option<T>, path: &str) -> Result<T, QuestionError>
-    ensures { Answers (λ value. value) (kind value path.now) result }
+    ensures { Answers (λ value. value) (keys.of_kind value path.now) result }
 {
     match value {
         Some(value) => Ok(value),
@@ -88,7 +89,7 @@ pub fn of_kind<T>(alloc: Global, value: Option<T>, path: &str) -> Result<T, Ques
 
 /// The value where it is of the kind that the key of the table at the path asks for.
 fn of_kind_at<T>(alloc: Global, value: Option<T>, path: &str, key: &str) -> Result<T, QuestionError>
-    ensures { Answers (λ value. value) (kind value (key_of path.now key.now)) result }
+    ensures { Answers (λ value. value) (keys.of_kind value (key_of path.now key.now)) result }
 {
     match value {
         Some(value) => Ok(value),
@@ -255,7 +256,7 @@ pub fn knows_only(
     table: &Table,
     path: &str,
 ) -> Result<(), QuestionError>
-    ensures { Answers (λ _. tt) (knows (map (λ key. key.now) known.now) (table_view table.now) path.now) result }
+    ensures { Answers (λ _. tt) (keys.knows_only (map (λ key. key.now) known.now) (table_view table.now) path.now) result }
 {
     match unknown_key(table, known) {
         None => Ok(()),
@@ -267,7 +268,7 @@ pub fn knows_only(
 
 /// Refuses the list at the path where it has more entries than the greatest number.
 pub fn at_most(alloc: Global, most: usize, path: &str, list: &Array) -> Result<(), QuestionError>
-    ensures { Answers (λ _. tt) (few most path.now (list_of (array_view list.now))) result }
+    ensures { Answers (λ _. tt) (keys.at_most most path.now (list_of (array_view list.now))) result }
 {
     if list.len() <= most {
         return Ok(());

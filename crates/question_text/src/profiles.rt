@@ -5,7 +5,8 @@ ghost use Rattle.toml.specs.View.{table_view, array_view, view};
 ghost use Rattle.list_words.specs.Lists.{Each};
 ghost use Rattle.question_text.specs.Keys.{list_of, entries};
 ghost use Rattle.question_text.specs.Rules.{IsProfile};
-ghost use Rattle.question_text.specs.Tables.{a_profile, profiles as profiles_of};
+ghost use Rattle.question_text.specs.Tables as tables;
+ghost use Rattle.question_text.specs.Tables.{a_profile};
 ghost use Rattle.question_text.specs.Answers.{Answers};
 
 use crate::MOST_PROFILES;
@@ -57,7 +58,7 @@ impl<'o> ReadEntry for ProfileReader<'o> {
 
 /// The profiles of a document.
 pub fn profiles(alloc: Global, order: &Order, table: &Table) -> Result<Vec<Profile>, QuestionError>
-    ensures { Answers (λ profiles. profiles.items) (profiles_of order.now.names (table_view table.now)) result }
+    ensures { Answers (λ profiles. profiles.items) (tables.profiles order.now.names (table_view table.now)) result }
 {
     let Some(list) = optional_list(alloc, table, "", "profile")? else {
         return Ok(Vec::new(alloc));

@@ -2,7 +2,8 @@
 
 ghost use Rattle.std.specs.Prelude.{◌≡◌, Result, Ok, Err, IfOk, IfErr};
 ghost use Rattle.toml.specs.View.{table_view};
-ghost use Rattle.arbac_policy.specs.Rules.{IsPolicy, AreCountable, policy_of as rules_of};
+ghost use Rattle.arbac_policy.specs.Rules as policies;
+ghost use Rattle.arbac_policy.specs.Rules.{IsPolicy, AreCountable};
 ghost use Rattle.question_text.specs.Outcomes.{Fault};
 ghost use Rattle.question_text.specs.Values.{QuestionValue, plain_of};
 ghost use Rattle.question_text.specs.Documents.{the_head, the_roles, the_rules, question, document};
@@ -114,9 +115,9 @@ fn read_rules(
 
 /// The policy of these parts.
 fn policy_of(order: Order, rules: Rules, exclusive: Vec<(u16, u16)>) -> Policy
-    requires known { IsPolicy (rules_of order rules.assign.items rules.revoke.items rules.assignp.items rules.revokep.items exclusive.items) }
-    requires few { AreCountable (rules_of order rules.assign.items rules.revoke.items rules.assignp.items rules.revokep.items exclusive.items) }
-    ensures { result ≡ rules_of order rules.assign.items rules.revoke.items rules.assignp.items rules.revokep.items exclusive.items }
+    requires known { IsPolicy (policies.policy_of order rules.assign.items rules.revoke.items rules.assignp.items rules.revokep.items exclusive.items) }
+    requires few { AreCountable (policies.policy_of order rules.assign.items rules.revoke.items rules.assignp.items rules.revokep.items exclusive.items) }
+    ensures { result ≡ policies.policy_of order rules.assign.items rules.revoke.items rules.assignp.items rules.revokep.items exclusive.items }
 {
     let Rules {
         assign,

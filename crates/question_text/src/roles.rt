@@ -1,14 +1,14 @@
 //! The lists of roles, edges and pairs of a document.
 
-ghost use Rattle.std.specs.Prelude.{◌≡◌, ◌<◌, ◌≤◌, ◌^◌, ◌↔◌, IsTrue, option_map, ◌&&◌, ◌||◌, not, [], length, position, codes, string_bytes, IfOk};
+ghost use Rattle.std.specs.Prelude.{◌≡◌, ◌<◌, ◌≤◌, ◌^◌, ◌↔◌, IsTrue, option_map, ◌&&◌, ◌||◌, not, [], length, position};
+ghost use Rattle.std.specs.Prelude.{codes, string_bytes, IfOk};
 ghost use Rattle.toml.specs.View.{table_view, array_view, view};
 ghost use Rattle.role_order.specs.Names.{texts};
 ghost use Rattle.role_order.specs.Refusals.{IsOrder};
 ghost use Rattle.question_text.specs.Keys.{entries, list_of, as_two_different_texts};
 ghost use Rattle.question_text.specs.declared.TheConstants.{MOST_PAIRS};
-ghost use Rattle.question_text.specs.Roles.{a_text, a_role, an_edge, a_pair, is_order, listed_roles};
-ghost use Rattle.question_text.specs.Roles.{role_named as named, role_set as set_of, role_names as names_of, admin_list as admins_list, admin_roles as admins_of};
-ghost use Rattle.question_text.specs.Roles.{both_roles as both, is_mixed as mixed, not_mixed as apart, role_edges as edges_of, exclusive_pairs as exclusive_of};
+ghost use Rattle.question_text.specs.Roles.{a_text, a_role, an_edge, a_pair, is_order, roles_in, listed_roles};
+ghost use Rattle.question_text.specs.Roles as role_lists;
 ghost use Rattle.question_text.specs.Answers.{Answers};
 ghost use Rattle.question_text.specs.Views.{entries_of};
 
@@ -18,7 +18,7 @@ use crate::keys::{
     at_most, entry_path, of_kind, optional_list, required_list, two_texts, value_at,
 };
 use crate::question_error::QuestionError;
-use policy_text::MOST_EDGES;
+use arbac_policy::MOST_EDGES;
 use role_order::{MOST_ROLES, Order, OrderError, RoleSet};
 use std::alloc::{AllocError, Global};
 use toml::value::Array;
@@ -31,7 +31,7 @@ pub fn role_named(
     path: &str,
     name: &str,
 ) -> Result<u16, QuestionError>
-    ensures role { Answers (λ role. role) (named order.now.names path.now name.now) result }
+    ensures role { Answers (λ role. role) (role_lists.role_named order.now.names path.now name.now) result }
     ensures known { IfOk result (λ role. role < length order.now.names) }
 {
     match order.role_named(name) {
@@ -58,7 +58,7 @@ pub fn role_set(
     path: &str,
     list: &Array,
 ) -> Result<RoleSet, QuestionError>
-    ensures { Answers (λ set. set) (set_of order.now.names path.now (list_of (array_view list.now))) result }
+    ensures { Answers (λ set. set) (role_lists.role_set order.now.names path.now (list_of (array_view list.now))) result }
 {
     // The roles of an order are few enough for a set.
     let count = order.count() as usize;
@@ -123,7 +123,7 @@ fn order_of(
 
 /// The order of the roles that a document names, without edges yet.
 pub fn role_names(alloc: Global, table: &Table) -> Result<Order, QuestionError>
-    ensures names { Answers (λ order. order.names) (names_of (table_view table.now)) result }
+    ensures names { Answers (λ order. order.names) (role_lists.role_names (table_view table.now)) result }
     ensures edges { IfOk result (λ order. order.edges ≡ []) }
 {
     let list = required_list(alloc, table, "", "roles")?;
@@ -137,7 +137,7 @@ fn admin_list<'t>(
     separate: bool,
     table: &'t Table,
 ) -> Result<Option<&'t Array>, QuestionError>
-    ensures { Answers entries_of (admins_list separate (table_view table.now)) result }
+    ensures { Answers entries_of (role_lists.admin_list separate (table_view table.now)) result }
 {
     if separate {
         Ok(Some(required_list(alloc, table, "", "admin_roles")?))
@@ -153,7 +153,7 @@ pub fn admin_roles(
     separate: bool,
     table: &Table,
 ) -> Result<RoleSet, QuestionError>
-    ensures { Answers (λ set. set) (admins_of separate order.now.names (table_view table.now)) result }
+    ensures { Answers (λ set. set) (role_lists.admin_roles separate order.now.names (table_view table.now)) result }
 {
     match admin_list(alloc, separate, table)? {
         Some(list) => role_set(alloc, order, "admin_roles", list),
@@ -168,25 +168,12 @@ fn both_roles(
     path: &str,
     texts: (&str, &str),
 ) -> Result<(u16, u16), QuestionError>
-    ensures { Answers (λ roles. roles) (both order.now.names path.now (texts.entry.0.now, texts.entry.1.now)) result }
+    ensures { Answers (λ roles. roles) (role_lists.both_roles order.now.names path.now (texts.entry.0.now, texts.entry.1.now)) result }
 {
     let (first, second) = texts;
     let first = role_named(alloc, order, path, first)?;
     let second = role_named(alloc, order, path, second)?;
     Ok((first, second))
-}
-
-/// The edge of the senior role and the junior one that the list at the path names.
-fn edge_of(
-    alloc: Global,
-    order: &Order,
-    path: &str,
-    value: &Value,
-) -> Result<(u16, u16), QuestionError>
-    ensures { Answers (λ edge. edge) (an_edge order.now.names path.now (view value.now)) result }
-{
-    let texts = of_kind(alloc, two_texts(value), path)?;
-    both_roles(alloc, order, path, texts)
 }
 
 /// The texts of a list of exactly two that differ.
@@ -199,16 +186,16 @@ fn different_texts(value: &Value) -> Option<(&str, &str)>
     }
 }
 
-/// The pair of the two roles that the list at the path names.
-fn pair_of(
+/// The roles that two texts name, if there are two of the kind that is wanted.
+fn roles_of(
     alloc: Global,
     order: &Order,
     path: &str,
-    value: &Value,
+    texts: Option<(&str, &str)>,
 ) -> Result<(u16, u16), QuestionError>
-    ensures { Answers (λ pair. pair) (a_pair order.now.names path.now (view value.now)) result }
+    ensures { Answers (λ roles. roles) (roles_in order.now.names path.now (option_map (λ texts. (texts.0.now, texts.1.now)) texts.entry)) result }
 {
-    let texts = of_kind(alloc, different_texts(value), path)?;
+    let texts = of_kind(alloc, texts, path)?;
     both_roles(alloc, order, path, texts)
 }
 
@@ -224,7 +211,7 @@ impl<'o> ReadEntry for EdgeReader<'o> {
     ghost reads = { λ by path d. an_edge by.order.now.names path d };
 
     fn read(&self, alloc: Global, path: &str, value: &Value) -> Result<(u16, u16), QuestionError> {
-        edge_of(alloc, self.order, path, value)
+        roles_of(alloc, self.order, path, two_texts(value))
     }
 }
 
@@ -240,13 +227,13 @@ impl<'o> ReadEntry for PairReader<'o> {
     ghost reads = { λ by path d. a_pair by.order.now.names path d };
 
     fn read(&self, alloc: Global, path: &str, value: &Value) -> Result<(u16, u16), QuestionError> {
-        pair_of(alloc, self.order, path, value)
+        roles_of(alloc, self.order, path, different_texts(value))
     }
 }
 
 /// Whether one of the roles is administrative and the other isn't.
 fn is_mixed(admins: &RoleSet, roles: (u16, u16)) -> bool
-    ensures { result ≡ mixed admins.now roles }
+    ensures { result ≡ role_lists.is_mixed admins.now roles }
 {
     let (first, second) = roles;
     (admins.has(first) && !admins.has(second)) || (admins.has(second) && !admins.has(first))
@@ -254,7 +241,7 @@ fn is_mixed(admins: &RoleSet, roles: (u16, u16)) -> bool
 
 /// The place of the first two roles of which one is administrative and the other isn't.
 fn first_mixed(admins: &RoleSet, list: &[(u16, u16)]) -> Option<usize>
-    ensures { result ≡ position (mixed admins.now) list.now }
+    ensures { result ≡ position (role_lists.is_mixed admins.now) list.now }
 {
     list.iter().position(|roles| is_mixed(admins, *roles))
 }
@@ -268,7 +255,7 @@ fn not_mixed(
     path: &str,
     list: &[(u16, u16)],
 ) -> Result<(), QuestionError>
-    ensures { Answers (λ _. tt) (apart separate admins.now path.now list.now) result }
+    ensures { Answers (λ _. tt) (role_lists.not_mixed separate admins.now path.now list.now) result }
 {
     if !separate {
         return Ok(());
@@ -281,23 +268,25 @@ fn not_mixed(
     }
 }
 
-/// The edges that a document lists; they may have a cycle.
-fn edges_listed(
+/// The pairs of roles that the list under the key says, each read alike.
+fn roles_listed<R: ReadEntry<Entry = (u16, u16)>>(
     alloc: Global,
-    order: &Order,
+    reader: &R,
+    most: usize,
     separate: bool,
     admins: &RoleSet,
+    key: &str,
     table: &Table,
 ) -> Result<Vec<(u16, u16)>, QuestionError>
-    ensures { Answers (λ edges. edges.items) (listed_roles MOST_EDGES (an_edge order.now.names) separate admins.now (codes "edges") (table_view table.now)) result }
+    ensures { Answers (λ roles. roles.items) (listed_roles most (R.reads reader.now) separate admins.now key.now (table_view table.now)) result }
 {
-    let Some(list) = optional_list(alloc, table, "", "edges")? else {
+    let Some(list) = optional_list(alloc, table, "", key)? else {
         return Ok(Vec::new(alloc));
     };
-    at_most(alloc, MOST_EDGES, "edges", list)?;
-    let edges = each_entry(alloc, &EdgeReader { order }, "edges", list)?;
-    not_mixed(alloc, separate, admins, "edges", edges.as_slice())?;
-    Ok(edges)
+    at_most(alloc, most, key, list)?;
+    let roles = each_entry(alloc, reader, key, list)?;
+    not_mixed(alloc, separate, admins, key, roles.as_slice())?;
+    Ok(roles)
 }
 
 /// The names of the order, in strings of their own.
@@ -319,31 +308,13 @@ pub fn role_edges(
     admins: &RoleSet,
     table: &Table,
 ) -> Result<Order, QuestionError>
-    ensures edges { Answers (λ next. next.edges) (edges_of separate admins.now order.now.names (table_view table.now)) result }
+    ensures edges { Answers (λ next. next.edges) (role_lists.role_edges separate admins.now order.now.names (table_view table.now)) result }
     ensures names { IfOk result (λ next. next.names ≡ order.now.names) }
 {
-    let edges = edges_listed(alloc, order, separate, admins, table)?;
+    let reader = EdgeReader { order };
+    let edges = roles_listed(alloc, &reader, MOST_EDGES, separate, admins, "edges", table)?;
     let names = copied_names(alloc, order)?;
     order_of(alloc, names, edges)
-}
-
-/// The exclusive pairs that a document lists.
-fn pairs_listed(
-    alloc: Global,
-    order: &Order,
-    separate: bool,
-    admins: &RoleSet,
-    table: &Table,
-) -> Result<Vec<(u16, u16)>, QuestionError>
-    ensures { Answers (λ pairs. pairs.items) (listed_roles MOST_PAIRS (a_pair order.now.names) separate admins.now (codes "exclusive") (table_view table.now)) result }
-{
-    let Some(list) = optional_list(alloc, table, "", "exclusive")? else {
-        return Ok(Vec::new(alloc));
-    };
-    at_most(alloc, MOST_PAIRS, "exclusive", list)?;
-    let pairs = each_entry(alloc, &PairReader { order }, "exclusive", list)?;
-    not_mixed(alloc, separate, admins, "exclusive", pairs.as_slice())?;
-    Ok(pairs)
 }
 
 /// The exclusive pairs of a document; a document of the first version has none.
@@ -355,12 +326,21 @@ pub fn exclusive_pairs(
     admins: &RoleSet,
     table: &Table,
 ) -> Result<Vec<(u16, u16)>, QuestionError>
-    ensures { Answers (λ pairs. pairs.items) (exclusive_of version separate admins.now order.now.names (table_view table.now)) result }
+    ensures { Answers (λ pairs. pairs.items) (role_lists.exclusive_pairs version separate admins.now order.now.names (table_view table.now)) result }
 {
     if version == 1 && value_at(table, "exclusive").is_some() {
         return Err(QuestionError::WrongKind {
             key: String::from_str(alloc, "exclusive")?,
         });
     }
-    pairs_listed(alloc, order, separate, admins, table)
+    let reader = PairReader { order };
+    roles_listed(
+        alloc,
+        &reader,
+        MOST_PAIRS,
+        separate,
+        admins,
+        "exclusive",
+        table,
+    )
 }

@@ -7,23 +7,20 @@ ghost use Rattle.role_order.specs.Roles.{has_role};
 ghost use Rattle.arbac_policy.specs.Truth.{term_of, IsKnown};
 ghost use Rattle.arbac_policy.specs.Rules.{IsKnownRange, IsKnownAssign, IsKnownRevoke};
 ghost use Rattle.cond_text.specs.Grammar.{term_count};
-ghost use Rattle.policy_text.specs.Runs.{plain_rule};
+ghost use Rattle.arbac_policy.specs.PlainRules.{plain_rule};
 ghost use Rattle.question_text.specs.Outcomes.{fails_if, mixed_role, seen_as};
 ghost use Rattle.question_text.specs.Keys.{list_of, entries};
-ghost use Rattle.question_text.specs.Tables.{a_condition as condition_text, a_range as range_text, is_mixed_rule};
-ghost use Rattle.question_text.specs.Tables.{the_admin as admin_of, the_condition as condition_of, the_range as range_of, names_some as some_named, not_wide as narrow, not_mixed_rule};
-ghost use Rattle.question_text.specs.Tables.{an_assign_rule as assign_rule_of, a_revoke_rule as revoke_rule_of, assign_rules as assign_rules_of, revoke_rules as revoke_rules_of};
-ghost use Rattle.question_text.specs.Tables.{assign_parts as assign_parts_of, assign_tests as assign_tests_of, revoke_parts as revoke_parts_of};
+ghost use Rattle.question_text.specs.Tables as tables;
+ghost use Rattle.question_text.specs.Tables.{is_mixed_rule, not_mixed_rule};
 ghost use Rattle.question_text.specs.Answers.{Answers};
 
 use crate::entries::{ReadEntry, each_entry};
 use crate::keys::{at_most, key_path, knows_only, of_kind, optional_list, required_text};
 use crate::question_error::QuestionError;
 use crate::roles::role_named;
-use arbac_policy::{CanAssign, CanRevoke, Cond};
+use arbac_policy::{CanAssign, CanRevoke, Cond, MOST_RULES};
 use arbac_rules::{MOST_CONJUNCTS, width_of};
-use cond_text::{CondError, MOST_TERMS, parse_cond};
-use policy_text::{MOST_RULES, read_range};
+use cond_text::{CondError, MOST_TERMS, parse_cond, read_range};
 use role_order::{Order, Range, RoleSet};
 use std::alloc::Global;
 use toml::value::Array;
@@ -36,7 +33,7 @@ pub fn a_condition(
     path: &str,
     text: &str,
 ) -> Result<Cond, QuestionError>
-    ensures answers { Answers term_of (condition_text order.now.names path.now text.now) result }
+    ensures answers { Answers term_of (tables.a_condition order.now.names path.now text.now) result }
     ensures known { IfOk result (λ cond. IsKnown (length order.now.names) (term_of cond)) }
     ensures few { IfOk result (λ cond. term_count (term_of cond) ≤ MOST_TERMS) }
 {
@@ -56,7 +53,7 @@ pub fn a_condition(
 
 /// The range between two roles that the text at a path is.
 fn a_range(alloc: Global, order: &Order, path: &str, text: &str) -> Result<Range, QuestionError>
-    ensures answers { Answers (λ range. range) (range_text order.now.names path.now text.now) result }
+    ensures answers { Answers (λ range. range) (tables.a_range order.now.names path.now text.now) result }
     ensures known { IfOk result (IsKnownRange (length order.now.names)) }
 {
     let Some(named) = read_range(text) else {
@@ -76,7 +73,7 @@ fn a_range(alloc: Global, order: &Order, path: &str, text: &str) -> Result<Range
 
 /// The administrative role of a rule.
 fn the_admin(alloc: Global, order: &Order, rule: &Table, path: &str) -> Result<u16, QuestionError>
-    ensures { Answers (λ role. role) (admin_of order.now.names (table_view rule.now) path.now) result }
+    ensures { Answers (λ role. role) (tables.the_admin order.now.names (table_view rule.now) path.now) result }
 {
     let name = required_text(alloc, rule, path, "admin")?;
     let key = key_path(alloc, path, "admin")?;
@@ -90,7 +87,7 @@ fn the_condition(
     rule: &Table,
     path: &str,
 ) -> Result<Cond, QuestionError>
-    ensures answers { Answers term_of (condition_of order.now.names (table_view rule.now) path.now) result }
+    ensures answers { Answers term_of (tables.the_condition order.now.names (table_view rule.now) path.now) result }
     ensures few { IfOk result (λ cond. term_count (term_of cond) ≤ MOST_TERMS) }
 {
     let text = required_text(alloc, rule, path, "condition")?;
@@ -100,7 +97,7 @@ fn the_condition(
 
 /// The range of a rule.
 fn the_range(alloc: Global, order: &Order, rule: &Table, path: &str) -> Result<Range, QuestionError>
-    ensures { Answers (λ range. range) (range_of order.now.names (table_view rule.now) path.now) result }
+    ensures { Answers (λ range. range) (tables.the_range order.now.names (table_view rule.now) path.now) result }
 {
     let text = required_text(alloc, rule, path, "range")?;
     let key = key_path(alloc, path, "range")?;
@@ -109,7 +106,7 @@ fn the_range(alloc: Global, order: &Order, rule: &Table, path: &str) -> Result<R
 
 /// Whether the condition names a role of the set.
 fn names_some(admins: &RoleSet, cond: &Cond) -> bool
-    ensures { result ≡ some_named (has_role admins.now) (term_of cond.now) }
+    ensures { result ≡ tables.names_some (has_role admins.now) (term_of cond.now) }
 {
     match cond {
         Cond::Any => false,
@@ -130,7 +127,7 @@ fn is_mixed(admins: &RoleSet, admin: u16, range: &Range) -> bool
 /// Refuses a condition of too many conjuncts.
 fn not_wide(alloc: Global, cond: &Cond, path: &str) -> Result<(), QuestionError>
     requires { term_count (term_of cond.now) ≤ MOST_TERMS }
-    ensures { Answers (λ _. tt) (narrow (term_of cond.now) path.now) result }
+    ensures { Answers (λ _. tt) (tables.not_wide (term_of cond.now) path.now) result }
 {
     let count = width_of(cond);
     if count > MOST_CONJUNCTS as u128 {
@@ -161,7 +158,7 @@ fn assign_parts(
     rule: &Table,
     path: &str,
 ) -> Result<CanAssign, QuestionError>
-    ensures answers { Answers plain_rule (assign_parts_of order.now.names (table_view rule.now) path.now) result }
+    ensures answers { Answers plain_rule (tables.assign_parts order.now.names (table_view rule.now) path.now) result }
     ensures few { IfOk result (λ rule. term_count (term_of rule.cond) ≤ MOST_TERMS) }
 {
     knows_only(alloc, &["admin", "condition", "range"], rule, path)?;
@@ -180,7 +177,7 @@ fn assign_tests(
     path: &str,
 ) -> Result<(), QuestionError>
     requires { term_count (term_of rule.now.cond) ≤ MOST_TERMS }
-    ensures { Answers (λ _. tt) (assign_tests_of separate admins.now (plain_rule rule.now) path.now) result }
+    ensures { Answers (λ _. tt) (tables.assign_tests separate admins.now (plain_rule rule.now) path.now) result }
 {
     not_wide(alloc, &rule.cond, path)?;
     let is_mixed = separate
@@ -197,7 +194,7 @@ fn an_assign_rule(
     path: &str,
     value: &Value,
 ) -> Result<CanAssign, QuestionError>
-    ensures { Answers plain_rule (assign_rule_of separate admins.now order.now.names path.now (view value.now)) result }
+    ensures { Answers plain_rule (tables.an_assign_rule separate admins.now order.now.names path.now (view value.now)) result }
 {
     let table = of_kind(alloc, value.as_table(), path)?;
     let rule = assign_parts(alloc, order, table, path)?;
@@ -212,7 +209,7 @@ fn revoke_parts(
     rule: &Table,
     path: &str,
 ) -> Result<CanRevoke, QuestionError>
-    ensures { Answers (λ rule. rule) (revoke_parts_of order.now.names (table_view rule.now) path.now) result }
+    ensures { Answers (λ rule. rule) (tables.revoke_parts order.now.names (table_view rule.now) path.now) result }
 {
     knows_only(alloc, &["admin", "range"], rule, path)?;
     let admin = the_admin(alloc, order, rule, path)?;
@@ -243,7 +240,7 @@ fn a_revoke_rule(
     path: &str,
     value: &Value,
 ) -> Result<CanRevoke, QuestionError>
-    ensures { Answers (λ rule. rule) (revoke_rule_of separate admins.now order.now.names path.now (view value.now)) result }
+    ensures { Answers (λ rule. rule) (tables.a_revoke_rule separate admins.now order.now.names path.now (view value.now)) result }
 {
     let table = of_kind(alloc, value.as_table(), path)?;
     let rule = revoke_parts(alloc, order, table, path)?;
@@ -262,7 +259,7 @@ struct AssignReader<'o> {
 impl<'o> ReadEntry for AssignReader<'o> {
     type Entry = CanAssign;
 
-    ghost reads = { λ by path d. seen_as plain_rule (assign_rule_of by.separate by.admins.now by.order.now.names path d) };
+    ghost reads = { λ by path d. seen_as plain_rule (tables.an_assign_rule by.separate by.admins.now by.order.now.names path d) };
 
     fn read(&self, alloc: Global, path: &str, value: &Value) -> Result<CanAssign, QuestionError> {
         an_assign_rule(alloc, self.order, self.separate, self.admins, path, value)
@@ -278,7 +275,7 @@ pub fn assign_rules(
     table: &Table,
     key: &str,
 ) -> Result<Vec<CanAssign>, QuestionError>
-    ensures rules { Answers (λ rules. map plain_rule rules.items) (assign_rules_of separate admins.now order.now.names (table_view table.now) key.now) result }
+    ensures rules { Answers (λ rules. map plain_rule rules.items) (tables.assign_rules separate admins.now order.now.names (table_view table.now) key.now) result }
     ensures known { IfOk result (λ rules. Each (IsKnownAssign (length order.now.names)) rules.items) }
     ensures few { IfOk result (λ rules. length rules.items ≤ MOST_RULES) }
 {
@@ -305,7 +302,7 @@ struct RevokeReader<'o> {
 impl<'o> ReadEntry for RevokeReader<'o> {
     type Entry = CanRevoke;
 
-    ghost reads = { λ by path d. revoke_rule_of by.separate by.admins.now by.order.now.names path d };
+    ghost reads = { λ by path d. tables.a_revoke_rule by.separate by.admins.now by.order.now.names path d };
 
     fn read(&self, alloc: Global, path: &str, value: &Value) -> Result<CanRevoke, QuestionError> {
         a_revoke_rule(alloc, self.order, self.separate, self.admins, path, value)
@@ -321,7 +318,7 @@ pub fn revoke_rules(
     table: &Table,
     key: &str,
 ) -> Result<Vec<CanRevoke>, QuestionError>
-    ensures rules { Answers (λ rules. rules.items) (revoke_rules_of separate admins.now order.now.names (table_view table.now) key.now) result }
+    ensures rules { Answers (λ rules. rules.items) (tables.revoke_rules separate admins.now order.now.names (table_view table.now) key.now) result }
     ensures known { IfOk result (λ rules. Each (IsKnownRevoke (length order.now.names)) rules.items) }
     ensures few { IfOk result (λ rules. length rules.items ≤ MOST_RULES) }
 {

@@ -1,8 +1,6 @@
-//! Documents with what they stand for, or their first fault.
+//! Documents that are read, or their first fault. What they are read as is tested where they are written, too.
 
 mod answers;
-mod documents;
-mod lines;
 
 use crate::{QuestionError, read_question};
 use answers::{
@@ -10,10 +8,6 @@ use answers::{
     RULES, TABLES, TEXTS, WIDE,
 };
 use cond_text::CondError;
-use documents::{
-    DEPARTMENT, DEPARTMENT_LINES, EXCLUSIVE, EXCLUSIVE_LINES, FREE, FREE_LINES, MIXED, MIXED_LINES,
-};
-use lines::lines_of;
 use role_order::OrderError;
 use std::alloc::{AllocError, Global};
 use std::process::Abort;
@@ -98,10 +92,6 @@ fn a_document_is_read_or_its_first_fault_is_told(rt: HostRuntime) -> Result<(), 
     }
     each_answered(&rt, alloc, BEGUN_2, PAIRS)?;
     each_answered(&rt, alloc, BEGUN_APART, APART)?;
-    for text in [MIXED, EXCLUSIVE, FREE, DEPARTMENT] {
-        let line = answer(alloc, text.as_bytes(), false)?;
-        assert_eq!(rt; line.as_str(), "read", "{text}");
-    }
     let empty_key = answer(alloc, b"\"\" = 1\n", false)?;
     assert_eq!(rt; empty_key.as_str(), "UnknownKey ");
     let not_utf8 = answer(alloc, b"version = 1 # \xff\n", false)?;
@@ -116,12 +106,14 @@ fn a_goal_is_missed_where_one_is_needed_alone(rt: HostRuntime) -> Result<(), Fai
     let alloc = rt.alloc();
     for (text, told) in [
         (BEGUN, "Missing goal"),
-        (MIXED, "read"),
         ("version = 3\n", "WrongKind version"),
     ] {
         let line = answer(alloc, text.as_bytes(), true)?;
         assert_eq!(rt; line.as_str(), told, "{text}");
     }
+    let whole = format!(in alloc; "{BEGUN}goal = [\"a\"]")?;
+    let line = answer(alloc, whole.as_bytes(), true)?;
+    assert_eq!(rt; line.as_str(), "read");
     let faulty = format!(in alloc; "{BEGUN}profile = 1")?;
     let line = answer(alloc, faulty.as_bytes(), true)?;
     assert_eq!(rt; line.as_str(), "WrongKind profile");
@@ -216,26 +208,4 @@ fn a_condition_may_have_1024_conjuncts(rt: HostRuntime) -> Result<(), Fail> {
         assert_eq!(rt; line.as_str(), told);
     }
     Ok(())
-}
-
-/// The document is read as a question with these lines.
-fn read_as(rt: &impl Abort, alloc: Global, text: &str, lines: &str) -> Result<(), Fail> {
-    let question = read_question(alloc, text.as_bytes(), true)?;
-    let found = lines_of(alloc, &question)?;
-    assert_eq!(rt; found.as_str(), lines);
-    Ok(())
-}
-
-#[test]
-fn what_is_read_is_what_the_document_says(rt: HostRuntime) -> Result<(), Fail> {
-    let alloc = rt.alloc();
-    read_as(&rt, alloc, MIXED, MIXED_LINES)?;
-    read_as(&rt, alloc, EXCLUSIVE, EXCLUSIVE_LINES)?;
-    read_as(&rt, alloc, FREE, FREE_LINES)?;
-    Ok(())
-}
-
-#[test]
-fn the_department_is_read_whole(rt: HostRuntime) -> Result<(), Fail> {
-    read_as(&rt, rt.alloc(), DEPARTMENT, DEPARTMENT_LINES)
 }

@@ -11,7 +11,8 @@ use Rattle.question_text.specs.Documents.{known_keys}
 use Rattle.question_text.specs.Rules.{KeepsRules}
 use Rattle.question_writer.specs.Texts.{version_text, truth_text, listed, quoted, role_text, pair_text, question_text}
 use Rattle.question_writer.proofs.BlockLemmas.{Entry, fill, filled, section_data, IsRead, blocks_read}
-use Rattle.question_writer.proofs.EntryLemmas.{entry, role_data, pair_data, condition_data, version_number, exclusive_entries, goal_entries, top, assign_row, revoke_row, profile_row, sections_of, text_blocks, top_written, sections_written}
+use Rattle.question_writer.proofs.EntryLemmas.{entry, role_data, pair_data, condition_data, version_number, exclusive_entries, goal_entries, top}
+use Rattle.question_writer.proofs.EntryLemmas.{assign_row, revoke_row, profile_row, sections_of, text_blocks, top_written, sections_written}
 use Rattle.question_writer.proofs.ValueLemmas.{list_data}
 
 -- a list as a value; none where it is empty
@@ -38,7 +39,8 @@ record IsRoot (v s r a e : Data) (exclusive goal : Option Data) (root : Nodes) (
 
 abbrev keys_before : Data → Data → Data → Data → Data → List ℕ → List ℕ → List ℕ → List ℕ → List ℕ → List Entry → List Entry
 keys_before v s r a e vt st rt at et more =
-    entry (codes "version") v vt ∷ (entry (codes "separate") s st ∷ (entry (codes "roles") r rt ∷ (entry (codes "admin_roles") a at ∷ (entry (codes "edges") e et ∷ more))))
+    entry (codes "version") v vt ∷ (entry
+    (codes "separate") s st ∷ (entry (codes "roles") r rt ∷ (entry (codes "admin_roles") a at ∷ (entry (codes "edges") e et ∷ more))))
 
 root_is : (v s r a e : Data) (vt st rt at et : List ℕ) (names : List (List ℕ)) (pairs : List (ℕ × ℕ)) (goal : List Term)
     → IsRoot v s r a e (list_or_none (pair_data names) pairs) (list_or_none (condition_data names) goal)
@@ -130,8 +132,10 @@ pub record IsTableOf (q : QuestionValue) (table : Members) : Type 0 where
 pub table_read : (q : QuestionValue) → KeepsRules q → (table : Members) × (parse_document (question_text q) ≡ Some table) × IsTableOf q table
 table_read q h =
     let root : Nodes = filled (top q) in
-    let is = root_is (integer (pos (version_number q.exclusive))) (boolean q.separate) (list_data string q.names) (list_data (role_data q.names) q.admin_roles) (list_data (pair_data q.names) q.edges)
-    (version_text q.exclusive) (truth_text q.separate) (listed quoted q.names) (listed (role_text q.names) q.admin_roles) (listed (pair_text q.names) q.edges) q.names q.exclusive q.goal in
+    let is = root_is (integer (pos (version_number q.exclusive))) (boolean q.separate) (list_data string q.names)
+    (list_data (role_data q.names) q.admin_roles) (list_data (pair_data q.names) q.edges)
+    (version_text q.exclusive) (truth_text q.separate) (listed quoted q.names) (listed (role_text q.names) q.admin_roles)
+    (listed (pair_text q.names) q.edges) q.names q.exclusive q.goal in
     let read : IsRead (top q) (sections_of q) known_keys root =
     blocks_read (top q) (sections_of q) known_keys root (top_written q h) is.full is.known (sections_written q h)
     (refl, (refl, (refl, (refl, (refl, tt)))))

@@ -1,5 +1,6 @@
 -- What a document of keys and lists of tables reads as: its lines are expressions, and these leave each key its value.
-use Rattle.std.proofs.Common.{◌≡◌, ℕ, ◌≤◌, Bool, true, false, cond, Ordering, Less, Equal, Greater, nat_cmp, List, [], ◌∷◌, ◌++◌, Option, Some, None, option_map, option_and_then, refl, sym, ap, ◌∙◌, subst, arith, append_assoc}
+use Rattle.std.proofs.Common.{◌≡◌, ℕ, ◌≤◌, Bool, true, false, cond, Ordering, Less, Equal, Greater, nat_cmp, List, [], ◌∷◌, ◌++◌}
+use Rattle.std.proofs.Common.{Option, Some, None, option_map, option_and_then, refl, sym, ap, ◌∙◌, subst, arith, append_assoc}
 use Rattle.std.specs.Prelude.{codes, map, if◌then◌else◌}
 use Rattle.std.specs.Cmp.Lexicographic.{slice_cmp}
 use Rattle.std.specs.List.{flat_map, list_any}
@@ -12,7 +13,8 @@ use Rattle.std.proofs.lemmas.Str.{IsUtf8-append, IsUtf8-nil}
 use Rattle.list_words.specs.Lists.{Each}
 use Rattle.toml_writer.specs.Text.{key_text}
 use Rattle.toml.specs.Data.{Data, array, table, Items, no_items, push_item, Members, get_member, same_key, depth, has_valid_dates}
-use Rattle.toml.specs.Tables.{Node, Nodes, no_nodes, node, open_array, get_node, insert, replace, close, close_node, Document, Expression, key_value, array_table, define, put, along_header, at_key}
+use Rattle.toml.specs.Tables.{Node, Nodes, no_nodes, node, open_array, get_node, insert, replace, close, close_node, Document, Expression, key_value}
+use Rattle.toml.specs.Tables.{array_table, define, put, along_header, at_key}
 use Rattle.toml.specs.Text.{IsValueText}
 use Rattle.toml.specs.Parse.{parse_document}
 use Rattle.toml.proofs.NodeLaws.{same_key-self, get_node-insert, get_node-replace, replace-insert, replace-replace, replace-self, along_found}
@@ -96,8 +98,13 @@ printed-append (e ∷ es) fs a b = (a.0, printed-append es fs a.1 b)
 
 tight_entries : (es : List Entry) → Each IsEntry es → IsTightText (map as_pair es) (flat_map entry_line es)
 tight_entries [] h = refl
-tight_entries (e ∷ es) h =
-    (entry_line e, flat_map entry_line es, refl, (e.text, ap (λ k. k ++ (codes " = " ++ (e.text ++ (10 ∷ [])))) (sym h.0.bare), h.0.text), tight_entries es h.1)
+tight_entries (e ∷ es) h = (
+  entry_line e,
+  flat_map entry_line es,
+  refl,
+  (e.text, ap (λ k. k ++ (codes " = " ++ (e.text ++ (10 ∷ [])))) (sym h.0.bare), h.0.text),
+  tight_entries es h.1,
+)
 
 printed_entries : (es : List Entry) → Each IsEntry es → AllPrinted (map as_pair es)
 printed_entries [] h = tt
@@ -107,7 +114,8 @@ tight_row : (key : List ℕ) (row : List Entry) → key_text key ≡ key → IsR
 tight_row key row bare h =
     (header key, flat_map entry_line row, refl, ap (λ k. codes "[[" ++ (k ++ codes "]]\n")) (sym bare), tight_entries row h.entries)
 
-tight_rows : (key : List ℕ) (rows : List (List Entry)) → key_text key ≡ key → Each IsRow rows → IsTightText (flat_map (row_lines key) rows) (flat_map (row_text key) rows)
+tight_rows : (key : List ℕ) (rows : List (List Entry)) → key_text key ≡ key → Each IsRow rows
+    → IsTightText (flat_map (row_lines key) rows) (flat_map (row_text key) rows)
 tight_rows key [] bare h = refl
 tight_rows key (row ∷ rows) bare h = tight-append (row_lines key row) _ (row_text key row) _ (tight_row key row bare h.0) (tight_rows key rows bare h.1)
 
@@ -132,14 +140,16 @@ entries_utf8 (e ∷ es) h = IsUtf8-append (entry_line e) (flat_map entry_line es
 rows_utf8 : (key : List ℕ) (rows : List (List Entry)) → IsUtf8 (header key) → Each IsRow rows → IsUtf8 (flat_map (row_text key) rows)
 rows_utf8 key [] head h = IsUtf8-nil
 rows_utf8 key (row ∷ rows) head h =
-    IsUtf8-append (row_text key row) (flat_map (row_text key) rows) (IsUtf8-append (header key) (flat_map entry_line row) head (entries_utf8 row h.0.entries)) (rows_utf8 key rows head h.1)
+    IsUtf8-append (row_text key row) (flat_map (row_text key) rows)
+    (IsUtf8-append (header key) (flat_map entry_line row) head (entries_utf8 row h.0.entries)) (rows_utf8 key rows head h.1)
 
 sections_utf8 : (sections : List Section) → Each IsSection sections → IsUtf8 (flat_map section_text sections)
 sections_utf8 [] h = IsUtf8-nil
 sections_utf8 (s ∷ ss) h = IsUtf8-append (section_text s) (flat_map section_text ss) (rows_utf8 s.0 s.1 h.0.utf8 h.0.rows) (sections_utf8 ss h.1)
 
 pub blocks_utf8 : (top : List Entry) (sections : List Section) → Each IsEntry top → Each IsSection sections → IsUtf8 (blocks_text top sections)
-blocks_utf8 top sections entries h = IsUtf8-append (flat_map entry_line top) (flat_map section_text sections) (entries_utf8 top entries) (sections_utf8 sections h)
+blocks_utf8 top sections entries h =
+    IsUtf8-append (flat_map entry_line top) (flat_map section_text sections) (entries_utf8 top entries) (sections_utf8 sections h)
 
 -- ---- what the expressions leave
 
@@ -160,12 +170,14 @@ opened key done root last = (replace key (open_array done last) root, key ∷ []
 
 row_step : (key : List ℕ) (es : List Entry) (done : Items) (root : Nodes) (o : Option Nodes)
     → ((n : Nodes) → run (opened key done root n) (map as_pair es) ≡ option_map (opened key done root) (fill es n))
-    → option_and_then (λ next. run next (map as_pair es)) (option_map (λ r. (r, key ∷ [])) (option_map (λ new. replace key new root) (option_map (open_array done) o)))
+    → option_and_then (λ next. run next (map as_pair es))
+    (option_map (λ r. (r, key ∷ [])) (option_map (λ new. replace key new root) (option_map (open_array done) o)))
     ≡ option_map (opened key done root) (option_and_then (fill es) o)
 row_step key es done root None ih = refl
 row_step key es done root (Some n) ih = ih n
 
-opened_again : (key : List ℕ) (done : Items) (root n : Nodes) (o : Option Nodes) → option_map (opened key done (replace key (open_array done n) root)) o ≡ option_map (opened key done root) o
+opened_again : (key : List ℕ) (done : Items) (root n : Nodes) (o : Option Nodes)
+    → option_map (opened key done (replace key (open_array done n) root)) o ≡ option_map (opened key done root) o
 opened_again key done root n None = refl
 opened_again key done root n (Some m) = rw (replace-replace key (open_array done n) (open_array done m) root) refl
 
@@ -193,14 +205,16 @@ pub record Gathers (key : List ℕ) (rows : List (List Entry)) (before : Items) 
   pub items : push_item done (table (close last)) ≡ items_after before (map row_data rows)
 
 -- one table more in a list that is there
-run_next : (key : List ℕ) (row : List Entry) (done : Items) (last root : Nodes) (path : List (List ℕ)) → IsRow row → get_node key root ≡ Some (open_array done last)
+run_next : (key : List ℕ) (row : List Entry) (done : Items) (last root : Nodes) (path : List (List ℕ)) → IsRow row
+    → get_node key root ≡ Some (open_array done last)
     → run (root, path) (row_lines key row) ≡ Some (opened key (push_item done (table (close last))) root (filled row))
 unfolding define along_header at_key
 run_next key row done last root path h there =
     let more : Items = push_item done (table (close last)) in
     let new : Nodes = replace key (open_array more no_nodes) root in
     let found = get_node-replace key (open_array more no_nodes) root (open_array done last) there in
-    rw there (run_row key row more no_nodes new found ∙ ap (option_map (opened key more new)) h.full ∙ opened_again key more root no_nodes (Some (filled row)))
+    rw there (run_row key row more no_nodes new found ∙ ap (option_map (opened key more new)) h.full
+    ∙ opened_again key more root no_nodes (Some (filled row)))
 
 -- a first table under a key
 run_first : (key : List ℕ) (row : List Entry) (root : Nodes) (path : List (List ℕ)) → IsRow row → get_node key root ≡ None
@@ -208,13 +222,22 @@ run_first : (key : List ℕ) (row : List Entry) (root : Nodes) (path : List (Lis
 unfolding define along_header at_key
 run_first key row root path h none =
     let new : Nodes = insert key (open_array no_items no_nodes) root in
-    rw none (run_row key row no_items no_nodes new (get_node-insert key (open_array no_items no_nodes) root) ∙ ap (option_map (opened key no_items new)) h.full
+    rw none (run_row key row no_items no_nodes new (get_node-insert key (open_array no_items no_nodes) root)
+    ∙ ap (option_map (opened key no_items new)) h.full
     ∙ ap (λ n. Some (n, key ∷ [])) (replace-insert key (open_array no_items no_nodes) (open_array no_items (filled row)) root))
 
-run_rows : (key : List ℕ) (rows : List (List Entry)) (done : Items) (last root : Nodes) (path : List (List ℕ)) → Each IsRow rows → get_node key root ≡ Some (open_array done last)
+run_rows : (key : List ℕ) (rows : List (List Entry)) (done : Items) (last root : Nodes) (path : List (List ℕ)) → Each IsRow rows
+    → get_node key root ≡ Some (open_array done last)
     → Gathers key rows (push_item done (table (close last))) root (run (root, path) (flat_map (row_lines key) rows))
 run_rows key [] done last root path h there =
-    record { done = done; last = last; path = path; ran_is = ap (λ n. Some (n, path)) (sym (replace-self key (open_array done last) root there)); items = refl }
+    record {
+      done = done;
+      last = last;
+      path = path;
+      ran_is = ap (λ n. Some (n, path))
+          (sym (replace-self key (open_array done last) root there));
+      items = refl;
+    }
 run_rows key (row ∷ rows) done last root path h there =
     let more : Items = push_item done (table (close last)) in
     let node_now : Node = open_array more (filled row) in
@@ -240,7 +263,8 @@ pub get_closed : (k : List ℕ) (ns : Nodes) → get_member k (close ns) ≡ loo
 get_closed k no_nodes = refl
 get_closed k (node l x ns) = by_order (slice_cmp nat_cmp k l) refl (get_closed k ns)
   where
-    by_order : (o : Ordering) → slice_cmp nat_cmp k l ≡ o → get_member k (close ns) ≡ look k ns → get_member k (close (node l x ns)) ≡ look k (node l x ns)
+    by_order : (o : Ordering) → slice_cmp nat_cmp k l ≡ o → get_member k (close ns) ≡ look k ns
+        → get_member k (close (node l x ns)) ≡ look k (node l x ns)
     by_order Less e rest = rw e rest
     by_order Equal e rest = rw e refl
     by_order Greater e rest = rw e rest
@@ -257,11 +281,13 @@ none_past k l x ns h = by_test (same_key k l) refl h
     by_test false e g = (e, g)
 
 -- a new key leaves the others
-pub get_insert : (k key : List ℕ) (x : Node) (ns : Nodes) → get_node key ns ≡ None → same_key k key ≡ false → get_node k (insert key x ns) ≡ get_node k ns
+pub get_insert : (k key : List ℕ) (x : Node) (ns : Nodes) → get_node key ns ≡ None → same_key k key ≡ false
+    → get_node k (insert key x ns) ≡ get_node k ns
 get_insert k key x no_nodes none other = rw other refl
 get_insert k key x (node l y ns) none other = by_order (slice_cmp nat_cmp key l) refl (get_insert k key x ns (none_past key l y ns none).1 other)
   where
-    by_order : (o : Ordering) → slice_cmp nat_cmp key l ≡ o → get_node k (insert key x ns) ≡ get_node k ns → get_node k (insert key x (node l y ns)) ≡ get_node k (node l y ns)
+    by_order : (o : Ordering) → slice_cmp nat_cmp key l ≡ o → get_node k (insert key x ns) ≡ get_node k ns
+        → get_node k (insert key x (node l y ns)) ≡ get_node k (node l y ns)
     by_order Less e rest = rw e (chosen (same_key k key) (Some x) (get_node k (node l y ns)) other)
     by_order Equal e rest = absurd (clash (none_past key l y ns none).0)
       where
@@ -270,13 +296,16 @@ get_insert k key x (node l y ns) none other = by_order (slice_cmp nat_cmp key l)
     by_order Greater e rest = rw (e, rest) refl
 
 -- the keys are all known
-pub known_insert : (known : List (List ℕ)) (key : List ℕ) (x : Node) (ns : Nodes) → list_any (bytes_eq key) known ≡ true → first_unknown known (close ns) ≡ None
+pub known_insert : (known : List (List ℕ)) (key : List ℕ) (x : Node) (ns : Nodes) → list_any (bytes_eq key) known ≡ true
+    → first_unknown known (close ns) ≡ None
     → first_unknown known (close (insert key x ns)) ≡ None
 known_insert known key x no_nodes is h = rw is refl
 known_insert known key x (node l y ns) is h = by_order (slice_cmp nat_cmp key l) refl (list_any (bytes_eq l) known) refl h (known_insert known key x ns is)
   where
-    by_order : (o : Ordering) → slice_cmp nat_cmp key l ≡ o → (t : Bool) → list_any (bytes_eq l) known ≡ t → cond t (first_unknown known (close ns)) (Some l) ≡ None
-        → (first_unknown known (close ns) ≡ None → first_unknown known (close (insert key x ns)) ≡ None) → first_unknown known (close (insert key x (node l y ns))) ≡ None
+    by_order : (o : Ordering) → slice_cmp nat_cmp key l ≡ o → (t : Bool) → list_any (bytes_eq l) known ≡ t
+        → cond t (first_unknown known (close ns)) (Some l) ≡ None
+        → (first_unknown known (close ns) ≡ None → first_unknown known (close (insert key x ns)) ≡ None)
+        → first_unknown known (close (insert key x (node l y ns))) ≡ None
     by_order o e false s g more = absurd (none-some l (sym g))
     by_order Less e true s g more = rw (e, is, s) g
     by_order Equal e true s g more = rw (e, s) g
@@ -314,7 +343,8 @@ pub key_is : (k l : List ℕ) → same_key k l ≡ true → k ≡ l
 key_is k l e = (bytes_eq-Decides k l).0 (sym (is_eq-slice_cmp k l) ∙ e)
 
 -- one list of tables
-run_section : (s : Section) (known : List (List ℕ)) (root : Nodes) (path : List (List ℕ)) → IsSection s → IsKnownSection known s → get_node s.0 root ≡ None → first_unknown known (close root) ≡ None
+run_section : (s : Section) (known : List (List ℕ)) (root : Nodes) (path : List (List ℕ)) → IsSection s → IsKnownSection known s
+    → get_node s.0 root ≡ None → first_unknown known (close root) ≡ None
     → Leaves (s ∷ []) known root (run (root, path) (section_lines s))
 run_section (key, []) known root path h is none ok =
     record { next = root; path = path; ran_is = refl; values = λ k. by_key k (same_key k key) refl; known_keys = ok }
@@ -357,8 +387,10 @@ found_past k s before e = rw e refl
 still_new : (s : Section) (ss : List Section) (root next : Nodes) → ((k : List ℕ) → look k next ≡ found_in k (s ∷ []) (look k root))
     → Each (λ t. same_key t.0 s.0 ≡ false) ss → AreNew ss root → AreNew ss next
 still_new s [] root next values apart new = tt
-still_new s (t ∷ ts) root next values apart new =
-    (look_none t.0 next (values t.0 ∙ found_past t.0 s (look t.0 root) apart.0 ∙ ap (option_map close_node) new.0), still_new s ts root next values apart.1 new.1)
+still_new s (t ∷ ts) root next values apart new = (
+  look_none t.0 next (values t.0 ∙ found_past t.0 s (look t.0 root) apart.0 ∙ ap (option_map close_node) new.0),
+  still_new s ts root next values apart.1 new.1,
+)
 
 found_apart : (k : List ℕ) (ss : List Section) (before : Option Data) → Each (λ t. same_key t.0 k ≡ false) ss → found_in k ss before ≡ before
 found_apart k [] before h = refl
@@ -376,11 +408,14 @@ found_step : (k : List ℕ) (s : Section) (ss : List Section) (before : Option D
 found_step k s ss before apart = by_key (same_key k s.0) refl
   where
     by_key : (b : Bool) → same_key k s.0 ≡ b → found_in k ss (found_in k (s ∷ []) before) ≡ found_in k (s ∷ ss) before
-    by_key true e = rw e (found_apart k ss (section_data s.1) (subst (λ (l : List ℕ). Each (λ t. same_key t.0 l ≡ false) ss) (sym (key_is k s.0 e)) apart))
+    by_key true e = rw e
+        (found_apart k ss (section_data s.1) (subst (λ (l : List ℕ). Each (λ t. same_key t.0 l ≡ false) ss) (sym (key_is k s.0 e)) apart))
     by_key false e = rw e refl
 
-run_sections : (sections : List Section) (known : List (List ℕ)) (root : Nodes) (path : List (List ℕ)) → Each IsSection sections → Each (IsKnownSection known) sections
-    → AreNew sections root → AreDistinct sections → first_unknown known (close root) ≡ None → Leaves sections known root (run (root, path) (flat_map section_lines sections))
+run_sections : (sections : List Section) (known : List (List ℕ)) (root : Nodes) (path : List (List ℕ)) → Each IsSection sections
+    → Each (IsKnownSection known) sections
+    → AreNew sections root → AreDistinct sections → first_unknown known (close root) ≡ None
+    → Leaves sections known root (run (root, path) (flat_map section_lines sections))
 run_sections [] known root path h is new apart ok = record { next = root; path = path; ran_is = refl; values = λ k. refl; known_keys = ok }
 run_sections (s ∷ ss) known root path h is new apart ok =
     let one = run_section s known root path h.0 is.0 new.0 ok in
@@ -388,7 +423,8 @@ run_sections (s ∷ ss) known root path h is new apart ok =
     record {
       next = rest.next;
       path = rest.path;
-      ran_is = run-append (root, path) (section_lines s) (flat_map section_lines ss) ∙ ap (option_and_then (λ d. run d (flat_map section_lines ss))) one.ran_is ∙ rest.ran_is;
+      ran_is = run-append (root, path) (section_lines s) (flat_map section_lines ss)
+          ∙ ap (option_and_then (λ d. run d (flat_map section_lines ss))) one.ran_is ∙ rest.ran_is;
       values = λ k. rest.values k ∙ ap (found_in k ss) (one.values k) ∙ found_step k s ss (look k root) apart.0;
       known_keys = rest.known_keys;
     }
@@ -400,7 +436,8 @@ pub record IsRead (top : List Entry) (sections : List Section) (known : List (Li
   pub values : (k : List ℕ) → get_member k table ≡ found_in k sections (get_member k (close root))
   pub known_keys : first_unknown known table ≡ None
 
-pub blocks_read : (top : List Entry) (sections : List Section) (known : List (List ℕ)) (root : Nodes) → Each IsEntry top → fill top no_nodes ≡ Some root → first_unknown known (close root) ≡ None
+pub blocks_read : (top : List Entry) (sections : List Section) (known : List (List ℕ)) (root : Nodes) → Each IsEntry top
+    → fill top no_nodes ≡ Some root → first_unknown known (close root) ≡ None
     → Each IsSection sections → Each (IsKnownSection known) sections → AreNew sections root → AreDistinct sections → IsRead top sections known root
 blocks_read top sections known root entries full ok h is new apart =
     let after = run_sections sections known root [] h is new apart ok in

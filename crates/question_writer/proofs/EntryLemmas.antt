@@ -1,5 +1,6 @@
 -- The text of a question, as a document of keys and lists of tables.
-use Rattle.std.proofs.Common.{◌≡◌, ℕ, suc, ◌<◌, ◌≤◌, ◌^◌, Bool, true, false, cond, List, [], ◌∷◌, ◌++◌, length, get_or, Option, Some, None, refl, sym, ap, ◌∙◌, subst, arith, append-nil, pos, rules}
+use Rattle.std.proofs.Common.{◌≡◌, ℕ, suc, ◌<◌, ◌≤◌, ◌^◌, Bool, true, false, cond, List, [], ◌∷◌, ◌++◌, length, get_or}
+use Rattle.std.proofs.Common.{Option, Some, None, refl, sym, ap, ◌∙◌, subst, arith, append-nil, pos, rules}
 use Rattle.std.specs.Prelude.{codes, map}
 use Rattle.std.specs.Char.{is_ascii}
 use Rattle.std.specs.Fmt.{decimal}
@@ -11,7 +12,7 @@ use Rattle.role_order.specs.declared.range.Range.{Range}
 use Rattle.list_words.specs.Lists.{Each}
 use Rattle.role_order.specs.Refusals.{AreNames}
 use Rattle.role_order.specs.Roles.{AreBelow}
-use Rattle.list_words.proofs.EachLemmas.{each_weaker}
+use Rattle.list_words.proofs.EachLemmas.{each_weaker, each_append}
 use Rattle.role_order.specs.Names.{is_role_name}
 use Rattle.std.proofs.lemmas.Fmt.{decimal_digit}
 use Rattle.arbac_policy.specs.declared.rule.CanRevoke.{CanRevoke}
@@ -19,18 +20,21 @@ use Rattle.arbac_policy.specs.declared.profile.Profile.{Profile}
 use Rattle.arbac_policy.specs.Truth.{Term, IsKnown}
 use Rattle.arbac_policy.specs.Rules.{IsKnownRange, IsKnownPair}
 use Rattle.cond_text.specs.Printing.{text_of}
-use Rattle.policy_text.specs.LineForms.{spell_range}
-use Rattle.policy_text.specs.Runs.{AssignRule}
+use Rattle.cond_text.specs.Ranges.{spell_range}
+use Rattle.arbac_policy.specs.PlainRules.{AssignRule}
 use Rattle.toml_writer.specs.Text.{key_text}
 use Rattle.toml.specs.Data.{Data, string, integer, boolean, depth, has_valid_dates}
 use Rattle.toml.specs.Tables.{at_key, along_dots}
 use Rattle.toml.specs.Text.{IsValueText}
 use Rattle.question_text.specs.Values.{QuestionValue}
 use Rattle.question_text.specs.Rules.{IsSet, IsPair, IsCondition, IsAssignRule, IsRevokeRule, IsMost, IsProfile, KeepsRules}
-use Rattle.question_writer.specs.Texts.{line, header, quoted, listed, role_text, pair_text, condition_text, named, range_text, truth_text, most_text, version_text, exclusive_text, goal_text, assign_text, revoke_text, profile_text, keys_text, tables_text, question_text}
+use Rattle.question_writer.specs.Texts.{line, header, quoted, listed, role_text, pair_text, condition_text, named, range_text, truth_text, most_text}
+use Rattle.question_writer.specs.Texts.{version_text, exclusive_text, goal_text, assign_text, revoke_text, profile_text, keys_text, tables_text}
+use Rattle.question_writer.specs.Texts.{question_text}
 use Rattle.question_writer.proofs.BlockLemmas.{Entry, IsEntry, Section, IsRow, IsSection, entry_line, row_text, section_text, blocks_text}
 use Rattle.question_writer.proofs.NamedLemmas.{is_named, name_plain, text_plain, range_plain, each_below}
-use Rattle.question_writer.proofs.ValueLemmas.{IsPlain, plain_string, quoted_utf8, ascii_utf8, decimal_utf8, list_data, list_text, list_depth, list_dated, listed_utf8}
+use Rattle.question_writer.proofs.ValueLemmas.{IsPlain, plain_string, quoted_utf8, ascii_utf8, decimal_utf8, list_data, list_text, list_depth, list_dated}
+use Rattle.question_writer.proofs.ValueLemmas.{listed_utf8}
 
 -- the text writes the value, which nests no deeper
 pub record IsItem (most : ℕ) (value : Data) (bytes : List ℕ) : Type 0 where
@@ -49,7 +53,8 @@ truth_item : (b : Bool) → IsItem 0 (boolean b) (truth_text b)
 truth_item true = record { text = refl; flat = omega arith; dated = refl; utf8 = ascii_utf8 (codes "true") refl }
 truth_item false = record { text = refl; flat = omega arith; dated = refl; utf8 = ascii_utf8 (codes "false") refl }
 
-list_item : {A : Type 0} (most : ℕ) (view : A → Data) (text : A → List ℕ) (xs : List A) → Each (λ x. IsItem most (view x) (text x)) xs → IsItem (suc most) (list_data view xs) (listed text xs)
+list_item : {A : Type 0} (most : ℕ) (view : A → Data) (text : A → List ℕ) (xs : List A) → Each (λ x. IsItem most (view x) (text x)) xs
+    → IsItem (suc most) (list_data view xs) (listed text xs)
 list_item {A} most view text xs h =
     let P : A → Type 0 = λ x. IsItem most (view x) (text x) in
     record {
@@ -62,14 +67,16 @@ list_item {A} most view text xs h =
 abbrev pub entry : List ℕ → Data → List ℕ → Entry
 entry key value text = record { key = key; text = text; value = value }
 
-is_entry : (most : ℕ) (key : List ℕ) (value : Data) (text : List ℕ) → most ≤ 80 → key_text key ≡ key → list_all is_ascii key ≡ true → IsItem most value text → IsEntry (entry key value text)
+is_entry : (most : ℕ) (key : List ℕ) (value : Data) (text : List ℕ) → most ≤ 80 → key_text key ≡ key → list_all is_ascii key ≡ true
+    → IsItem most value text → IsEntry (entry key value text)
 is_entry most key value text room bare ascii item = record {
   bare = bare;
   text = item.text;
   flat = let deep = item.flat in omega arith;
   dated = item.dated;
   utf8 = IsUtf8-append key (codes " = " ++ (text ++ (10 ∷ []))) (ascii_utf8 key ascii)
-      (IsUtf8-append (codes " = ") (text ++ (10 ∷ [])) (ascii_utf8 (codes " = ") refl) (IsUtf8-append text (10 ∷ []) item.utf8 (ascii_utf8 (10 ∷ []) refl)));
+      (IsUtf8-append (codes " = ") (text ++ (10 ∷ [])) (ascii_utf8 (codes " = ") refl)
+      (IsUtf8-append text (10 ∷ []) item.utf8 (ascii_utf8 (10 ∷ []) refl)));
 }
 
 -- ---- the values
@@ -145,12 +152,14 @@ same_flat : {A : Type 0} (f g : A → List ℕ) (xs : List A) → ((x : A) → f
 same_flat f g [] same = refl
 same_flat f g (x ∷ xs) same = rw (same x, same_flat f g xs same) refl
 
-rows_text : {A : Type 0} (key : List ℕ) (row : A → List Entry) (text : A → List ℕ) (xs : List A) → ((x : A) → row_text key (row x) ≡ text x) → section_text (key, map row xs) ≡ flat_map text xs
+rows_text : {A : Type 0} (key : List ℕ) (row : A → List Entry) (text : A → List ℕ) (xs : List A) → ((x : A) → row_text key (row x) ≡ text x)
+    → section_text (key, map row xs) ≡ flat_map text xs
 rows_text key row text xs same = flat_map-map (row_text key) row xs ∙ same_flat (λ x. row_text key (row x)) text xs same
 
 assign_same : (key : List ℕ) (names : List (List ℕ)) (rule : AssignRule) → row_text key (assign_row names rule) ≡ assign_text key names rule
 assign_same key names rule =
-    ap (λ t. header key ++ (line (codes "admin") (role_text names rule.admin) ++ (line (codes "condition") (condition_text names rule.cond) ++ t))) (append-nil (line (codes "range") (range_text names rule.range)))
+    ap (λ t. header key ++ (line (codes "admin") (role_text names rule.admin) ++ (line (codes "condition") (condition_text names rule.cond) ++ t)))
+    (append-nil (line (codes "range") (range_text names rule.range)))
 
 revoke_same : (key : List ℕ) (names : List (List ℕ)) (rule : CanRevoke) → row_text key (revoke_row names rule) ≡ revoke_text key names rule
 revoke_same key names rule =
@@ -158,9 +167,11 @@ revoke_same key names rule =
 
 profile_same : (names : List (List ℕ)) (profile : Profile) → row_text (codes "profile") (profile_row names profile) ≡ profile_text names profile
 profile_same names profile =
-    ap (λ t. header (codes "profile") ++ (line (codes "roles") (listed (role_text names) profile.set) ++ t)) (append-nil (line (codes "most") (most_text profile.most)))
+    ap (λ t. header (codes "profile") ++ (line (codes "roles") (listed (role_text names) profile.set) ++ t))
+    (append-nil (line (codes "most") (most_text profile.most)))
 
-last_lines : (names : List (List ℕ)) (pairs : List (ℕ × ℕ)) (goal : List Term) → flat_map entry_line (exclusive_entries names pairs ++ goal_entries names goal) ≡ exclusive_text names pairs ++ goal_text names goal
+last_lines : (names : List (List ℕ)) (pairs : List (ℕ × ℕ)) (goal : List Term)
+    → flat_map entry_line (exclusive_entries names pairs ++ goal_entries names goal) ≡ exclusive_text names pairs ++ goal_text names goal
 last_lines names [] [] = refl
 last_lines names [] (cond ∷ conds) = append-nil (goal_text names (cond ∷ conds))
 last_lines names (pair ∷ pairs) [] = refl
@@ -206,7 +217,9 @@ module _ (names : List (List ℕ)) (ok : AreNames names) where
   most_item (Some most) h = number_item most (omega arith)
 
   set_items : (set : List ℕ) → AreBelow (length names) set → Each (λ role. IsItem 0 (role_data names role) (role_text names role)) set
-  set_items set below = each_weaker (λ role. role < length names) (λ role. IsItem 0 (role_data names role) (role_text names role)) role_item set (each_below (length names) set below)
+  set_items set below =
+      each_weaker (λ role. role < length names) (λ role. IsItem 0 (role_data names role) (role_text names role)) role_item set
+      (each_below (length names) set below)
 
   set_item : (set : List ℕ) → IsSet (length names) set → IsItem 1 (list_data (role_data names) set) (listed (role_text names) set)
   set_item set h = list_item 0 (role_data names) (role_text names) set (set_items set h.below)
@@ -247,37 +260,44 @@ module _ (names : List (List ℕ)) (ok : AreNames names) where
   unfolding at_key along_dots
   profile_is_row profile h = record { entries = profile_entries profile h; full = refl }
 
-each_mapped : {A B : Type 0} (P : A → Type 0) (Q : B → Type 0) (f : A → B) (xs : List A) → ((x : A) → P x → Q (f x)) → Each P xs → Each Q (map f xs)
+each_mapped : {A B : Type 0} (P : A → Type 0) (Q : B → Type 0) (f : A → B) (xs : List A) → ((x : A) → P x → Q (f x)) → Each P xs
+    → Each Q (map f xs)
 each_mapped P Q f [] each h = tt
 each_mapped P Q f (x ∷ xs) each h = (each x h.0, each_mapped P Q f xs each h.1)
 
-is_section : (key : List ℕ) (rows : List (List Entry)) → key_text key ≡ key → list_all is_ascii key ≡ true → Each IsRow rows → IsSection (key, rows)
+is_section : (key : List ℕ) (rows : List (List Entry)) → key_text key ≡ key → list_all is_ascii key ≡ true → Each IsRow rows
+    → IsSection (key, rows)
 is_section key rows bare ascii h = record {
   bare = bare;
   rows = h;
-  utf8 = IsUtf8-append (codes "[[") (key ++ codes "]]\n") (ascii_utf8 (codes "[[") refl) (IsUtf8-append key (codes "]]\n") (ascii_utf8 key ascii) (ascii_utf8 (codes "]]\n") refl));
+  utf8 = IsUtf8-append (codes "[[") (key ++ codes "]]\n") (ascii_utf8 (codes "[[") refl)
+      (IsUtf8-append key (codes "]]\n") (ascii_utf8 key ascii) (ascii_utf8 (codes "]]\n") refl));
 }
 
 pub sections_written : (q : QuestionValue) → KeepsRules q → Each IsSection (sections_of q)
 unfolding key_text
 sections_written q h =
     let ok = h.order.are_names in (
-      is_section (codes "can_assign") _ refl refl (each_mapped (IsAssignRule (length q.names)) IsRow (assign_row q.names) q.assign (assign_is_row q.names ok) h.assign.1),
+      is_section (codes "can_assign") _ refl refl
+          (each_mapped (IsAssignRule (length q.names)) IsRow (assign_row q.names) q.assign (assign_is_row q.names ok) h.assign.1),
       (
-        is_section (codes "can_revoke") _ refl refl (each_mapped (IsRevokeRule (length q.names)) IsRow (revoke_row q.names) q.revoke (revoke_is_row q.names ok) h.revoke.1),
+        is_section (codes "can_revoke") _ refl refl
+            (each_mapped (IsRevokeRule (length q.names)) IsRow (revoke_row q.names) q.revoke (revoke_is_row q.names ok) h.revoke.1),
         (
-          is_section (codes "can_assignp") _ refl refl (each_mapped (IsAssignRule (length q.names)) IsRow (assign_row q.names) q.assignp (assign_is_row q.names ok) h.assignp.1),
+          is_section (codes "can_assignp") _ refl refl
+              (each_mapped (IsAssignRule (length q.names)) IsRow (assign_row q.names) q.assignp (assign_is_row q.names ok) h.assignp.1),
           (
-            is_section (codes "can_revokep") _ refl refl (each_mapped (IsRevokeRule (length q.names)) IsRow (revoke_row q.names) q.revokep (revoke_is_row q.names ok) h.revokep.1),
-            (is_section (codes "profile") _ refl refl (each_mapped (IsProfile (length q.names)) IsRow (profile_row q.names) q.profiles (profile_is_row q.names ok) h.profiles.1), tt),
+            is_section (codes "can_revokep") _ refl refl
+                (each_mapped (IsRevokeRule (length q.names)) IsRow (revoke_row q.names) q.revokep (revoke_is_row q.names ok) h.revokep.1),
+            (
+              is_section (codes "profile") _ refl refl
+                  (each_mapped (IsProfile (length q.names)) IsRow (profile_row q.names) q.profiles (profile_is_row q.names ok) h.profiles.1),
+              tt,
+            ),
           ),
         ),
       ),
     )
-
-each-append : {A : Type 0} (P : A → Type 0) (xs ys : List A) → Each P xs → Each P ys → Each P (xs ++ ys)
-each-append P [] ys a b = b
-each-append P (x ∷ xs) ys a b = (a.0, each-append P xs ys a.1 b)
 
 version_item : (pairs : List (ℕ × ℕ)) → IsItem 0 (integer (pos (version_number pairs))) (version_text pairs)
 version_item [] = subst (λ (text : List ℕ). IsItem 0 (integer (pos 1)) text) (decimal_digit 1 (omega arith)) (number_item 1 (omega arith))
@@ -289,7 +309,8 @@ module _ (names : List (List ℕ)) (ok : AreNames names) where
   exclusive_written [] h = tt
   exclusive_written (pair ∷ pairs) h = (
     is_entry 2 (codes "exclusive") _ _ (omega arith) refl refl (list_item 1 (pair_data names) (pair_text names) (pair ∷ pairs)
-        (each_weaker (IsPair (length names)) (λ p. IsItem 1 (pair_data names p) (pair_text names p)) (λ p k. pair_item names ok p k.known) (pair ∷ pairs) h)),
+        (each_weaker (IsPair (length names)) (λ p. IsItem 1 (pair_data names p) (pair_text names p)) (λ p k. pair_item names ok p k.known)
+        (pair ∷ pairs) h)),
     tt,
   )
 
@@ -298,7 +319,8 @@ module _ (names : List (List ℕ)) (ok : AreNames names) where
   goal_written [] h = tt
   goal_written (cond ∷ conds) h = (
     is_entry 1 (codes "goal") _ _ (omega arith) refl refl (list_item 0 (condition_data names) (condition_text names) (cond ∷ conds)
-        (each_weaker (IsCondition (length names)) (λ t. IsItem 0 (condition_data names t) (condition_text names t)) (λ t k. condition_item names ok t k.known) (cond ∷ conds) h)),
+        (each_weaker (IsCondition (length names)) (λ t. IsItem 0 (condition_data names t) (condition_text names t))
+        (λ t k. condition_item names ok t k.known) (cond ∷ conds) h)),
     tt,
   )
 
@@ -306,8 +328,10 @@ pub top_written : (q : QuestionValue) → KeepsRules q → Each IsEntry (top q)
 unfolding key_text
 top_written q h =
     let ok = h.order.are_names in
-    let name_items = each_weaker (λ name. is_role_name name ≡ true) (λ name. IsItem 0 (string name) (quoted name)) (λ name k. string_item name (name_plain name k)) q.names ok.named in
-    let edge_items = each_weaker (IsKnownPair (length q.names)) (λ p. IsItem 1 (pair_data q.names p) (pair_text q.names p)) (λ p k. pair_item q.names ok p k) q.edges h.order.ends in (
+    let name_items = each_weaker (λ name. is_role_name name ≡ true) (λ name. IsItem 0 (string name) (quoted name))
+    (λ name k. string_item name (name_plain name k)) q.names ok.named in
+    let edge_items = each_weaker (IsKnownPair (length q.names)) (λ p. IsItem 1 (pair_data q.names p) (pair_text q.names p))
+    (λ p k. pair_item q.names ok p k) q.edges h.order.ends in (
       is_entry 0 (codes "version") _ _ (omega arith) refl refl (version_item q.exclusive),
       (
         is_entry 0 (codes "separate") _ _ (omega arith) refl refl (truth_item q.separate),
@@ -317,7 +341,8 @@ top_written q h =
             is_entry 1 (codes "admin_roles") _ _ (omega arith) refl refl (set_item q.names ok q.admin_roles h.admins),
             (
               is_entry 2 (codes "edges") _ _ (omega arith) refl refl (list_item 1 (pair_data q.names) (pair_text q.names) q.edges edge_items),
-              each-append IsEntry (exclusive_entries q.names q.exclusive) (goal_entries q.names q.goal) (exclusive_written q.names ok q.exclusive h.exclusive.1) (goal_written q.names ok q.goal h.goal.1),
+              each_append IsEntry (exclusive_entries q.names q.exclusive) (goal_entries q.names q.goal)
+                  (exclusive_written q.names ok q.exclusive h.exclusive.1) (goal_written q.names ok q.goal h.goal.1),
             ),
           ),
         ),

@@ -1,5 +1,6 @@
 -- Texts that grow piece by piece.
-use Rattle.std.proofs.Common.{ℕ, ◌≡◌, ◌+◌, ◌<◌, ◌≤◌, ◌∙◌, Bool, true, false, cond, List, [], ◌∷◌, ◌++◌, append_assoc, append-nil, length, drop, refl, arith, sym, ap, zero, suc, Some, eqb, ltb, get_or}
+use Rattle.std.proofs.Common.{ℕ, ◌≡◌, ◌+◌, ◌<◌, ◌≤◌, ◌∙◌, Bool, true, false, cond, List, [], ◌∷◌, ◌++◌, append_assoc}
+use Rattle.std.proofs.Common.{append-nil, length, drop, refl, arith, sym, ap, zero, suc, Some, eqb, ltb, get_or}
 use Rattle.std.specs.Prelude.{slice_get, codes, map, if◌then◌else◌, ◌==◌, nat_lt}
 use Rattle.std.specs.List.{flat_map, join_by}
 use Rattle.std.proofs.lemmas.Bool.{eqb-true}
@@ -10,37 +11,11 @@ use Rattle.role_order.proofs.SetLemmas.{has_role-below}
 use Rattle.arbac_policy.specs.declared.profile.Profile.{Profile}
 use Rattle.arbac_policy.specs.declared.rule.CanRevoke.{CanRevoke}
 use Rattle.arbac_policy.specs.Truth.{Term}
-use Rattle.policy_text.specs.Runs.{AssignRule}
-use Rattle.question_writer.specs.Texts.{line, quoted, listed, role_text, pair_text, version_text, truth_text, exclusive_text, goal_text, assign_text, revoke_text, profile_text, keys_text, tables_text}
+use Rattle.arbac_policy.specs.PlainRules.{AssignRule}
+use Rattle.question_writer.specs.Texts.{line, quoted, listed, role_text, pair_text, version_text, truth_text, exclusive_text, goal_text, assign_text}
+use Rattle.question_writer.specs.Texts.{revoke_text, profile_text, keys_text, tables_text}
 use Rattle.question_text.specs.Values.{QuestionValue}
-
--- a piece moves from what is to come to what is written
-pub moved : (text piece new rest whole : List ℕ) → text ++ (piece ++ rest) ≡ whole → new ≡ text ++ piece → new ++ rest ≡ whole
-moved text piece new rest whole h e = ap (λ t. t ++ rest) e ∙ append_assoc text piece rest ∙ h
-
-pub finished : (text rest whole : List ℕ) → rest ≡ [] → text ++ rest ≡ whole → text ≡ whole
-finished text rest whole none h = sym (append-nil text) ∙ ap (λ r. text ++ r) (sym none) ∙ h
-
-drop_at : {A : Type 0} (xs : List A) (i : ℕ) (x : A) → slice_get xs i ≡ Some x → drop i xs ≡ x ∷ drop (i + 1) xs
-drop_at [] i x e = cc
-drop_at (y ∷ ys) zero x e = let same : y ≡ x = cc in ap (λ t. t ∷ ys) same
-drop_at (y ∷ ys) (suc i) x e = let n : suc i + 1 ≡ suc (i + 1) = omega arith in rw n (drop_at ys i x e)
-
-drop_all : {A : Type 0} (xs : List A) (i : ℕ) → length xs ≤ i → drop i xs ≡ []
-drop_all [] zero l = refl
-drop_all [] (suc i) l = refl
-drop_all (x ∷ xs) zero l = absurd (omega arith)
-drop_all (x ∷ xs) (suc i) l = drop_all xs i (omega arith)
-
--- ---- items behind one another
-
-pub flat_step : {A : Type 0} (piece : A → List ℕ) (xs : List A) (place : ℕ) (x : A) (text new whole : List ℕ) → slice_get xs place ≡ Some x
-    → text ++ flat_map piece (drop place xs) ≡ whole → new ≡ text ++ piece x → new ++ flat_map piece (drop (place + 1) xs) ≡ whole
-flat_step piece xs place x text new whole at h e =
-    moved text (piece x) new (flat_map piece (drop (place + 1) xs)) whole (ap (λ ys. text ++ flat_map piece ys) (sym (drop_at xs place x at)) ∙ h) e
-
-pub flat_end : {A : Type 0} (piece : A → List ℕ) (xs : List A) (place : ℕ) (text whole : List ℕ) → length xs ≤ place → text ++ flat_map piece (drop place xs) ≡ whole → text ≡ whole
-flat_end piece xs place text whole end h = finished text (flat_map piece (drop place xs)) whole (ap (flat_map piece) (drop_all xs place end)) h
+use Rattle.text_pieces.proofs.PieceLemmas.{moved, finished, drop_at, drop_all}
 
 -- ---- items with commas between them
 
@@ -55,10 +30,13 @@ joined_from item place xs = if place == 0 then join_by item (codes ", ") xs else
 more_than_0 : (place : ℕ) → (place + 1 == 0) ≡ false
 more_than_0 place = grind (arith, nat_tests)
 
-joined_front : {A : Type 0} (item : A → List ℕ) (place : ℕ) (x : A) (xs : List A) → joined_from item place (x ∷ xs) ≡ (comma place ++ item x) ++ joined_from item (place + 1) xs
+joined_front : {A : Type 0} (item : A → List ℕ) (place : ℕ) (x : A) (xs : List A)
+    → joined_from item place (x ∷ xs) ≡ (comma place ++ item x) ++ joined_from item (place + 1) xs
 joined_front item place x xs = rw (more_than_0 place) (by_test (place == 0))
   where
-    by_test : (t : Bool) → cond t (join_by item (codes ", ") (x ∷ xs)) (flat_map (λ y. codes ", " ++ item y) (x ∷ xs)) ≡ (cond t [] (codes ", ") ++ item x) ++ flat_map (λ y. codes ", " ++ item y) xs
+    by_test : (t : Bool)
+        → cond t (join_by item (codes ", ") (x ∷ xs))
+        (flat_map (λ y. codes ", " ++ item y) (x ∷ xs)) ≡ (cond t [] (codes ", ") ++ item x) ++ flat_map (λ y. codes ", " ++ item y) xs
     by_test true = refl
     by_test false = refl
 
@@ -70,18 +48,21 @@ joined_none item place = by_test (place == 0)
     by_test false = refl
 
 pub joined_step : {A : Type 0} (item : A → List ℕ) (xs : List A) (place : ℕ) (x : A) (text mid new whole : List ℕ) → slice_get xs place ≡ Some x
-    → text ++ joined_from item place (drop place xs) ≡ whole → mid ≡ text ++ comma place → new ≡ mid ++ item x → new ++ joined_from item (place + 1) (drop (place + 1) xs) ≡ whole
+    → text ++ joined_from item place (drop place xs) ≡ whole → mid ≡ text ++ comma place → new ≡ mid ++ item x
+    → new ++ joined_from item (place + 1) (drop (place + 1) xs) ≡ whole
 joined_step item xs place x text mid new whole at h e f =
     moved text (comma place ++ item x) new (joined_from item (place + 1) (drop (place + 1) xs)) whole
     (ap (λ t. text ++ t) (sym (ap (joined_from item place) (drop_at xs place x at) ∙ joined_front item place x (drop (place + 1) xs))) ∙ h)
     (f ∙ ap (λ t. t ++ item x) e ∙ append_assoc text (comma place) (item x))
 
 -- the whole list, in its brackets
-pub joined_end : {A : Type 0} (item : A → List ℕ) (xs : List A) (place : ℕ) (old front text new : List ℕ) → length xs ≤ place → front ≡ old ++ codes "["
+pub joined_end : {A : Type 0} (item : A → List ℕ) (xs : List A) (place : ℕ) (old front text new : List ℕ) → length xs ≤ place
+    → front ≡ old ++ codes "["
     → text ++ joined_from item place (drop place xs) ≡ front ++ join_by item (codes ", ") xs → new ≡ text ++ codes "]" → new ≡ old ++ listed item xs
 joined_end item xs place old front text new end e h f =
     let none : joined_from item place (drop place xs) ≡ [] = ap (joined_from item place) (drop_all xs place end) ∙ joined_none item place in
-    f ∙ ap (λ t. t ++ codes "]") (finished text (joined_from item place (drop place xs)) (front ++ join_by item (codes ", ") xs) none h ∙ ap (λ t. t ++ join_by item (codes ", ") xs) e)
+    f ∙ ap (λ t. t ++ codes "]") (finished text (joined_from item place (drop place xs)) (front ++ join_by item (codes ", ") xs) none h
+    ∙ ap (λ t. t ++ join_by item (codes ", ") xs) e)
     ∙ append_assoc (old ++ codes "[") (join_by item (codes ", ") xs) (codes "]") ∙ append_assoc old (codes "[") (join_by item (codes ", ") xs ++ codes "]")
 
 pub name_at : (names : List (List ℕ)) (role : ℕ) (name : List ℕ) → Some name ≡ slice_get names role → name ≡ get_or names role []
@@ -126,7 +107,8 @@ unfolding roles_below
 below_step [] at h = refl
 below_step (x ∷ xs) at h = by_test (ltb x at) (eqb x at) refl refl (below_step xs at h.1)
   where
-    by_test : (less same : Bool) → ltb x at ≡ less → eqb x at ≡ same → roles_below (at + 1) xs ≡ roles_below at xs ++ (if has_role xs at then at ∷ [] else [])
+    by_test : (less same : Bool) → ltb x at ≡ less → eqb x at ≡ same
+        → roles_below (at + 1) xs ≡ roles_below at xs ++ (if has_role xs at then at ∷ [] else [])
         → roles_below (at + 1) (x ∷ xs) ≡ roles_below at (x ∷ xs) ++ (if has_role (x ∷ xs) at then at ∷ [] else [])
     by_test true same e f rest = rw (less_more x at e, e, less_apart x at e) (ap (λ l. x ∷ l) rest)
     by_test false true e f rest =
@@ -144,8 +126,10 @@ below_all (x ∷ xs) at h = let first = h.0 in let test : nat_lt x at ≡ true =
 in_order : (t0 t1 t2 p rest : List ℕ) → t1 ≡ t0 ++ p → t2 ≡ t1 ++ rest → t2 ≡ t0 ++ (p ++ rest)
 in_order t0 t1 t2 p rest e f = f ∙ ap (λ t. t ++ rest) e ∙ append_assoc t0 p rest
 
-pub keys_done : (q : QuestionValue) (names : List (List ℕ)) (edges pairs : List (ℕ × ℕ)) (goal : List Term) (version truth t0 t1 t2 t3 t4 t5 t6 t7 : List ℕ)
-    → names ≡ q.names → edges ≡ q.edges → pairs ≡ q.exclusive → goal ≡ q.goal → version ≡ version_text pairs → truth ≡ truth_text q.separate
+pub keys_done : (q : QuestionValue) (names : List (List ℕ)) (edges pairs : List (ℕ × ℕ)) (goal : List Term)
+    (version truth t0 t1 t2 t3 t4 t5 t6 t7 : List ℕ)
+    → names ≡ q.names → edges ≡ q.edges → pairs ≡ q.exclusive → goal ≡ q.goal → version ≡ version_text pairs
+    → truth ≡ truth_text q.separate
     → t1 ≡ t0 ++ line (codes "version") version
     → t2 ≡ t1 ++ line (codes "separate") truth
     → t3 ≡ t2 ++ line (codes "roles") (listed quoted names)
@@ -160,11 +144,13 @@ keys_done q names edges pairs goal version truth t0 t1 t2 t3 t4 t5 t6 t7 en ee e
     (in_order t1 t2 t7 _ _ (e2 ∙ ap (λ v. t1 ++ line (codes "separate") v) et)
     (in_order t2 t3 t7 _ _ (e3 ∙ ap (λ ns. t2 ++ line (codes "roles") (listed quoted ns)) en)
     (in_order t3 t4 t7 _ _ (e4 ∙ ap (λ ns. t3 ++ line (codes "admin_roles") (listed (role_text ns) q.admin_roles)) en)
-    (in_order t4 t5 t7 _ _ (e5 ∙ ap (λ ns. t4 ++ line (codes "edges") (listed (pair_text ns) edges)) en ∙ ap (λ es. t4 ++ line (codes "edges") (listed (pair_text q.names) es)) ee)
+    (in_order t4 t5 t7 _ _ (e5 ∙ ap (λ ns. t4 ++ line (codes "edges") (listed (pair_text ns) edges)) en
+    ∙ ap (λ es. t4 ++ line (codes "edges") (listed (pair_text q.names) es)) ee)
     (in_order t5 t6 t7 _ _ (e6 ∙ ap (λ ns. t5 ++ exclusive_text ns pairs) en ∙ ap (λ ps. t5 ++ exclusive_text q.names ps) ep)
     (e7 ∙ ap (λ ns. t6 ++ goal_text ns goal) en ∙ ap (λ g. t6 ++ goal_text q.names g) eg))))))
 
-pub tables_done : (q : QuestionValue) (names : List (List ℕ)) (assign assignp : List AssignRule) (revoke revokep : List CanRevoke) (profiles : List Profile) (t0 t1 t2 t3 t4 t5 : List ℕ)
+pub tables_done : (q : QuestionValue) (names : List (List ℕ)) (assign assignp : List AssignRule) (revoke revokep : List CanRevoke)
+    (profiles : List Profile) (t0 t1 t2 t3 t4 t5 : List ℕ)
     → names ≡ q.names → assign ≡ q.assign → revoke ≡ q.revoke → assignp ≡ q.assignp → revokep ≡ q.revokep → profiles ≡ q.profiles
     → t1 ≡ t0 ++ flat_map (assign_text (codes "can_assign") names) assign
     → t2 ≡ t1 ++ flat_map (revoke_text (codes "can_revoke") names) revoke
@@ -174,8 +160,12 @@ pub tables_done : (q : QuestionValue) (names : List (List ℕ)) (assign assignp 
     → t5 ≡ t0 ++ tables_text q
 unfolding tables_text
 tables_done q names assign assignp revoke revokep profiles t0 t1 t2 t3 t4 t5 en ea er eap erp epr e1 e2 e3 e4 e5 =
-    in_order t0 t1 t5 _ _ (e1 ∙ ap (λ ns. t0 ++ flat_map (assign_text (codes "can_assign") ns) assign) en ∙ ap (λ rs. t0 ++ flat_map (assign_text (codes "can_assign") q.names) rs) ea)
-    (in_order t1 t2 t5 _ _ (e2 ∙ ap (λ ns. t1 ++ flat_map (revoke_text (codes "can_revoke") ns) revoke) en ∙ ap (λ rs. t1 ++ flat_map (revoke_text (codes "can_revoke") q.names) rs) er)
-    (in_order t2 t3 t5 _ _ (e3 ∙ ap (λ ns. t2 ++ flat_map (assign_text (codes "can_assignp") ns) assignp) en ∙ ap (λ rs. t2 ++ flat_map (assign_text (codes "can_assignp") q.names) rs) eap)
-    (in_order t3 t4 t5 _ _ (e4 ∙ ap (λ ns. t3 ++ flat_map (revoke_text (codes "can_revokep") ns) revokep) en ∙ ap (λ rs. t3 ++ flat_map (revoke_text (codes "can_revokep") q.names) rs) erp)
+    in_order t0 t1 t5 _ _ (e1 ∙ ap (λ ns. t0 ++ flat_map (assign_text (codes "can_assign") ns) assign) en
+    ∙ ap (λ rs. t0 ++ flat_map (assign_text (codes "can_assign") q.names) rs) ea)
+    (in_order t1 t2 t5 _ _ (e2 ∙ ap (λ ns. t1 ++ flat_map (revoke_text (codes "can_revoke") ns) revoke) en
+    ∙ ap (λ rs. t1 ++ flat_map (revoke_text (codes "can_revoke") q.names) rs) er)
+    (in_order t2 t3 t5 _ _ (e3 ∙ ap (λ ns. t2 ++ flat_map (assign_text (codes "can_assignp") ns) assignp) en
+    ∙ ap (λ rs. t2 ++ flat_map (assign_text (codes "can_assignp") q.names) rs) eap)
+    (in_order t3 t4 t5 _ _ (e4 ∙ ap (λ ns. t3 ++ flat_map (revoke_text (codes "can_revokep") ns) revokep) en
+    ∙ ap (λ rs. t3 ++ flat_map (revoke_text (codes "can_revokep") q.names) rs) erp)
     (e5 ∙ ap (λ ns. t4 ++ flat_map (profile_text ns) profiles) en ∙ ap (λ ps. t4 ++ flat_map (profile_text q.names) ps) epr))))

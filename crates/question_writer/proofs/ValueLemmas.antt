@@ -1,5 +1,6 @@
 -- The texts of values write these values as TOML.
-use Rattle.std.proofs.Common.{◌≡◌, ℕ, zero, suc, ◌<◌, ◌≤◌, ◌^◌, Bool, true, false, ◌&&◌, List, [], ◌∷◌, ◌++◌, refl, sym, ap, ◌∙◌, subst, arith, append_assoc, append-nil}
+use Rattle.std.proofs.Common.{◌≡◌, ℕ, zero, suc, ◌<◌, ◌≤◌, ◌^◌, Bool, true, false, ◌&&◌, List, [], ◌∷◌, ◌++◌, refl, sym}
+use Rattle.std.proofs.Common.{ap, ◌∙◌, subst, arith, append_assoc, append-nil}
 use Rattle.std.specs.Prelude.{codes, map, not, nat_le, ◌==◌}
 use Rattle.std.specs.Char.{is_ascii}
 use Rattle.std.specs.Fmt.{decimal}
@@ -32,7 +33,8 @@ plain-append [] t a b = b
 plain-append (c ∷ s) t a b = let p = and_both (is_plain c) (list_all is_plain s) a in rw (p.0, plain-append s t p.1 b) refl
 
 -- bytes of one kind are of another
-pub all_of : (p q : ℕ → Bool) → ((b : ℕ) → p b ≡ true → q b ≡ true) → (text : List ℕ) → list_all p text ≡ true → list_all q text ≡ true
+pub all_of : (p q : ℕ → Bool) → ((b : ℕ) → p b ≡ true → q b ≡ true) → (text : List ℕ) → list_all p text ≡ true
+    → list_all q text ≡ true
 all_of p q more [] h = refl
 all_of p q more (b ∷ bs) h = let t = and_both (p b) (list_all p bs) h in rw (more b t.0, all_of p q more bs t.1) refl
 
@@ -46,7 +48,8 @@ name_byte_plain b h = by_test (is_plain b) refl
 pub names_plain : (text : List ℕ) → list_all is_name_byte text ≡ true → IsPlain text
 names_plain text h = all_of is_name_byte is_plain name_byte_plain text h
 
-none_of : (p q : ℕ → Bool) → ((b : ℕ) → p b ≡ true → q b ≡ false) → (text : List ℕ) → list_all p text ≡ true → list_any q text ≡ false
+none_of : (p q : ℕ → Bool) → ((b : ℕ) → p b ≡ true → q b ≡ false) → (text : List ℕ) → list_all p text ≡ true
+    → list_any q text ≡ false
 none_of p q other [] h = refl
 none_of p q other (b ∷ bs) h = let t = and_both (p b) (list_all p bs) h in rw (other b t.0, none_of p q other bs t.1) refl
 
@@ -140,14 +143,17 @@ list_text view text xs h =
     let rest : List ℕ = join_by text (codes ", ") xs ++ codes "]" in
     (rest, refl, subst (λ (b : Bool). IsItemsText false b true ds rest) (sym (no_breaks ds)) (items_text view text xs h))
 
-pub list_depth : {A : Type 0} (view : A → Data) (most : ℕ) (xs : List A) → Each (λ x. depth (view x) ≤ most) xs → depth (list_data view xs) ≤ suc most
+pub list_depth : {A : Type 0} (view : A → Data) (most : ℕ) (xs : List A) → Each (λ x. depth (view x) ≤ most) xs
+    → depth (list_data view xs) ≤ suc most
 list_depth view most xs h = let inner = items_deep view most xs h in omega arith
   where
-    items_deep : {A : Type 0} (view : A → Data) (most : ℕ) (xs : List A) → Each (λ x. depth (view x) ≤ most) xs → items_depth (items_of (map view xs)) ≤ most
+    items_deep : {A : Type 0} (view : A → Data) (most : ℕ) (xs : List A) → Each (λ x. depth (view x) ≤ most) xs
+        → items_depth (items_of (map view xs)) ≤ most
     items_deep view most [] h = omega arith
     items_deep view most (x ∷ xs) h = max-le h.0 (items_deep view most xs h.1)
 
-pub list_dated : {A : Type 0} (view : A → Data) (xs : List A) → Each (λ x. has_valid_dates (view x) ≡ true) xs → has_valid_dates (list_data view xs) ≡ true
+pub list_dated : {A : Type 0} (view : A → Data) (xs : List A) → Each (λ x. has_valid_dates (view x) ≡ true) xs
+    → has_valid_dates (list_data view xs) ≡ true
 list_dated view [] h = refl
 list_dated view (x ∷ xs) h = rw (h.0, list_dated view xs h.1) refl
 

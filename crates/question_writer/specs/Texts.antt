@@ -1,4 +1,4 @@
--- The text that is written for a question; each line ends in LF (10).
+-- The text that is written for a question; each line ends in a line feed.
 use Rattle.std.specs.Prelude.{ℕ, Bool, if◌then◌else◌, List, [], ◌∷◌, ◌++◌, Option, Some, None, codes, get_or}
 use Rattle.std.specs.Fmt.{decimal}
 use Rattle.std.specs.List.{flat_map, join_by}
@@ -7,13 +7,13 @@ use Rattle.arbac_policy.specs.declared.rule.CanRevoke.{CanRevoke}
 use Rattle.arbac_policy.specs.declared.profile.Profile.{Profile}
 use Rattle.arbac_policy.specs.Truth.{Term}
 use Rattle.cond_text.specs.Printing.{text_of}
-use Rattle.policy_text.specs.LineForms.{NamedRange, spell_range}
-use Rattle.policy_text.specs.Runs.{AssignRule}
+use Rattle.cond_text.specs.Ranges.{NamedRange, spell_range}
+use Rattle.arbac_policy.specs.PlainRules.{AssignRule}
 use Rattle.question_text.specs.Values.{QuestionValue}
 
 -- `key = value`
 abbrev pub line : List ℕ → List ℕ → List ℕ
-line key value = key ++ (codes " = " ++ (value ++ (10 ∷ [])))
+line key value = key ++ (codes " = " ++ (value ++ codes "\n"))
 
 -- `[[key]]`
 abbrev pub header : List ℕ → List ℕ
@@ -21,12 +21,13 @@ header key = codes "[[" ++ (key ++ codes "]]\n")
 
 -- `"text"`
 abbrev pub quoted : List ℕ → List ℕ
-quoted text = 34 ∷ (text ++ (34 ∷ []))
+quoted text = codes "\"" ++ (text ++ codes "\"")
 
 -- `[first, second]`, each item by its text
 abbrev pub listed : {A : Type 0} → (A → List ℕ) → List A → List ℕ
 listed item items = codes "[" ++ (join_by item (codes ", ") items ++ codes "]")
 
+-- a role's name in quotes
 abbrev pub role_text : List (List ℕ) → ℕ → List ℕ
 role_text names role = quoted (get_or names role [])
 
@@ -34,6 +35,7 @@ role_text names role = quoted (get_or names role [])
 abbrev pub pair_text : List (List ℕ) → ℕ × ℕ → List ℕ
 pair_text names pair = listed (role_text names) (pair.0 ∷ pair.1 ∷ [])
 
+-- a condition's text in quotes
 abbrev pub condition_text : List (List ℕ) → Term → List ℕ
 condition_text names cond = quoted (text_of names cond)
 
@@ -41,12 +43,15 @@ condition_text names cond = quoted (text_of names cond)
 abbrev pub named : List (List ℕ) → Range → NamedRange
 named names range = record { low = get_or names range.low []; high = get_or names range.high []; low_open = range.low_open; high_open = range.high_open }
 
+-- a range's text in quotes
 abbrev pub range_text : List (List ℕ) → Range → List ℕ
 range_text names range = quoted (spell_range (named names range))
 
+-- the word of a truth value
 abbrev pub truth_text : Bool → List ℕ
 truth_text value = if value then codes "true" else codes "false"
 
+-- a number of users, or `any`
 abbrev pub most_text : Option ℕ → List ℕ
 most_text None = quoted (codes "any")
 most_text (Some most) = decimal most
@@ -56,14 +61,17 @@ abbrev pub version_text : List (ℕ × ℕ) → List ℕ
 version_text [] = codes "1"
 version_text (pair ∷ pairs) = codes "2"
 
+-- the line of the pairs, where there are any
 abbrev pub exclusive_text : List (List ℕ) → List (ℕ × ℕ) → List ℕ
 exclusive_text names [] = []
 exclusive_text names (pair ∷ pairs) = line (codes "exclusive") (listed (pair_text names) (pair ∷ pairs))
 
+-- the line of the goal, where there is one
 abbrev pub goal_text : List (List ℕ) → List Term → List ℕ
 goal_text names [] = []
 goal_text names (cond ∷ conds) = line (codes "goal") (listed (condition_text names) (cond ∷ conds))
 
+-- the table of a rule that gives roles, behind its header
 abbrev pub assign_text : List ℕ → List (List ℕ) → AssignRule → List ℕ
 assign_text key names rule =
     header key
@@ -71,12 +79,14 @@ assign_text key names rule =
     ++ (line (codes "condition") (condition_text names rule.cond)
     ++ line (codes "range") (range_text names rule.range)))
 
+-- the table of a rule that takes roles, behind its header
 abbrev pub revoke_text : List ℕ → List (List ℕ) → CanRevoke → List ℕ
 revoke_text key names rule =
     header key
     ++ (line (codes "admin") (role_text names rule.admin)
     ++ line (codes "range") (range_text names rule.range))
 
+-- the table of a profile, behind its header
 abbrev pub profile_text : List (List ℕ) → Profile → List ℕ
 profile_text names profile =
     header (codes "profile")

@@ -1,38 +1,23 @@
 //! Texts that grow piece by piece: values, and lists of them.
 
 ghost use Rattle.std.specs.Prelude.{◌≡◌, ◌<◌, ◌++◌, ◌∷◌, [], map, OnOk, IfOk, length, codes, if◌then◌else◌, ◌==◌};
-ghost use Rattle.std.specs.Fmt.{decimal};
 ghost use Rattle.list_words.specs.Lists.{Each};
 ghost use Rattle.role_order.specs.Roles.{has_role};
 ghost use Rattle.arbac_policy.specs.Truth.{term_of, IsKnown};
 ghost use Rattle.arbac_policy.specs.Rules.{IsKnownPair, IsKnownRange};
+ghost use Rattle.cond_text.specs.Ranges.{opening_text, closing_text};
 ghost use Rattle.question_text.specs.Rules.{IsSet};
 ghost use Rattle.question_writer.specs.Texts.{header, quoted, listed, role_text, pair_text, condition_text, range_text};
 
+use crate::NoMemory;
 use arbac_policy::Cond;
 use cond_text::print_cond;
 use role_order::{Order, Range, RoleSet};
 use std::alloc::{AllocError, Global};
-
-/// Puts the words behind the text.
-pub fn put(text: &mut Vec<u8>, words: &str) -> Result<(), AllocError>
-    ensures { OnOk result (text.new.items ≡ text.old.items ++ words.now) }
-{
-    text.extend_from_slice(words.as_bytes())?;
-    Ok(())
-}
-
-/// Puts the number behind the text, in decimal.
-pub fn put_number(alloc: Global, text: &mut Vec<u8>, number: u32) -> Result<(), AllocError>
-    ensures { OnOk result (text.new.items ≡ text.old.items ++ decimal number) }
-{
-    let digits = number.to_string(alloc)?;
-    put(text, digits.as_str())?;
-    Ok(())
-}
+use text_pieces::put;
 
 /// Puts the words between quotation marks behind the text.
-pub fn put_quoted(text: &mut Vec<u8>, words: &str) -> Result<(), AllocError>
+pub fn put_quoted(text: &mut Vec<u8>, words: &str) -> Result<(), NoMemory>
     ensures { OnOk result (text.new.items ≡ text.old.items ++ quoted words.now) }
 {
     put(text, "\"")?;
@@ -42,7 +27,7 @@ pub fn put_quoted(text: &mut Vec<u8>, words: &str) -> Result<(), AllocError>
 }
 
 /// Puts the key and the sign of equality behind the text.
-pub fn put_key(text: &mut Vec<u8>, key: &str) -> Result<(), AllocError>
+pub fn put_key(text: &mut Vec<u8>, key: &str) -> Result<(), NoMemory>
     ensures { OnOk result (text.new.items ≡ text.old.items ++ (key.now ++ codes " = ")) }
 {
     put(text, key)?;
@@ -51,7 +36,7 @@ pub fn put_key(text: &mut Vec<u8>, key: &str) -> Result<(), AllocError>
 }
 
 /// Puts the header of one more table of the key behind the text.
-pub fn put_header(text: &mut Vec<u8>, key: &str) -> Result<(), AllocError>
+pub fn put_header(text: &mut Vec<u8>, key: &str) -> Result<(), NoMemory>
     ensures { OnOk result (text.new.items ≡ text.old.items ++ header key.now) }
 {
     put(text, "[[")?;
@@ -70,7 +55,7 @@ fn put_comma(text: &mut Vec<u8>, place: usize) -> Result<(), AllocError>
     Ok(())
 }
 
-pub fn put_role(text: &mut Vec<u8>, order: &Order, role: u16) -> Result<(), AllocError>
+pub fn put_role(text: &mut Vec<u8>, order: &Order, role: u16) -> Result<(), NoMemory>
     requires { role < length order.now.names }
     ensures { OnOk result (text.new.items ≡ text.old.items ++ role_text order.now.names role) }
 {
@@ -95,7 +80,7 @@ pub fn put_condition(
     text: &mut Vec<u8>,
     order: &Order,
     cond: &Cond,
-) -> Result<(), AllocError>
+) -> Result<(), NoMemory>
     requires { IsKnown (length order.now.names) (term_of cond.now) }
     ensures { OnOk result (text.new.items ≡ text.old.items ++ condition_text order.now.names (term_of cond.now)) }
 {
@@ -105,18 +90,18 @@ pub fn put_condition(
 }
 
 fn opening(is_open: bool) -> &'static str
-    ensures { result.now ≡ (if is_open then 40 else 91) ∷ [] }
+    ensures { result.now ≡ opening_text is_open }
 {
     if is_open { "(" } else { "[" }
 }
 
 fn closing(is_open: bool) -> &'static str
-    ensures { result.now ≡ (if is_open then 41 else 93) ∷ [] }
+    ensures { result.now ≡ closing_text is_open }
 {
     if is_open { ")" } else { "]" }
 }
 
-pub fn put_range(text: &mut Vec<u8>, order: &Order, range: &Range) -> Result<(), AllocError>
+pub fn put_range(text: &mut Vec<u8>, order: &Order, range: &Range) -> Result<(), NoMemory>
     requires { IsKnownRange (length order.now.names) range.now }
     ensures { OnOk result (text.new.items ≡ text.old.items ++ range_text order.now.names range.now) }
 {
@@ -131,7 +116,7 @@ pub fn put_range(text: &mut Vec<u8>, order: &Order, range: &Range) -> Result<(),
 }
 
 /// Puts the list of all names behind the text.
-pub fn put_names(text: &mut Vec<u8>, order: &Order) -> Result<(), AllocError>
+pub fn put_names(text: &mut Vec<u8>, order: &Order) -> Result<(), NoMemory>
     ensures { OnOk result (text.new.items ≡ text.old.items ++ listed quoted order.now.names) }
 {
     put(text, "[")?;
@@ -144,7 +129,7 @@ pub fn put_names(text: &mut Vec<u8>, order: &Order) -> Result<(), AllocError>
 }
 
 /// Puts the list of the roles' names behind the text.
-pub fn put_roles(text: &mut Vec<u8>, order: &Order, roles: &[u16]) -> Result<(), AllocError>
+pub fn put_roles(text: &mut Vec<u8>, order: &Order, roles: &[u16]) -> Result<(), NoMemory>
     requires { Each (λ role. role < length order.now.names) roles.now }
     ensures { OnOk result (text.new.items ≡ text.old.items ++ listed (role_text order.now.names) roles.now) }
 {
@@ -158,7 +143,7 @@ pub fn put_roles(text: &mut Vec<u8>, order: &Order, roles: &[u16]) -> Result<(),
 }
 
 /// Puts the list of pairs of names behind the text.
-pub fn put_pairs(text: &mut Vec<u8>, order: &Order, pairs: &[(u16, u16)]) -> Result<(), AllocError>
+pub fn put_pairs(text: &mut Vec<u8>, order: &Order, pairs: &[(u16, u16)]) -> Result<(), NoMemory>
     requires { Each (IsKnownPair (length order.now.names)) pairs.now }
     ensures { OnOk result (text.new.items ≡ text.old.items ++ listed (pair_text order.now.names) pairs.now) }
 {
@@ -177,7 +162,7 @@ pub fn put_conditions(
     text: &mut Vec<u8>,
     order: &Order,
     conds: &[Cond],
-) -> Result<(), AllocError>
+) -> Result<(), NoMemory>
     requires { Each (IsKnown (length order.now.names)) (map term_of conds.now) }
     ensures { OnOk result (text.new.items ≡ text.old.items ++ listed (condition_text order.now.names) (map term_of conds.now)) }
 {
@@ -201,7 +186,7 @@ fn push_if_held(roles: &mut Vec<u16>, set: &RoleSet, role: u16) -> Result<(), Al
 }
 
 /// The roles of the set, by rising number.
-pub fn roles_of(alloc: Global, order: &Order, set: &RoleSet) -> Result<Vec<u16>, AllocError>
+pub fn roles_of(alloc: Global, order: &Order, set: &RoleSet) -> Result<Vec<u16>, NoMemory>
     requires { IsSet (length order.now.names) set.now }
     ensures { IfOk result (λ roles. roles.items ≡ set.now) }
 {

@@ -3,13 +3,17 @@
 //! `;` with the end of its line stands between the entries of a list, which is one text, since the check reads a list of
 //! texts entry by entry.
 
+mod lines;
+
 use crate::write_question;
+use lines::lines_of;
 use question_text::{QuestionError, read_question};
-use std::alloc::Global;
+use std::alloc::{AllocError, Global};
+use std::process::Abort;
 use std::test::Fail;
 
-/// Texts that are written for their own questions. The third is the second with roles that exclude one another no longer;
-/// the fourth is an engineering department of two projects, with its security officers.
+/// Texts that are written for their own questions, each with the lines of its question: `TEXT => LINES`. The second is an
+/// engineering department of two projects, with its security officers.
 const WRITTEN: &str = r#"version = 1
 separate = false
 roles = ["adm", "c"]
@@ -26,43 +30,14 @@ range = "[adm,adm]"
 [[profile]]
 roles = ["adm"]
 most = 1
-;
-version = 2
-separate = false
-roles = ["adm", "a", "b"]
-admin_roles = []
-edges = []
-exclusive = [["a", "b"]]
-goal = ["a and b"]
-[[can_assign]]
-admin = "adm"
-condition = "any"
-range = "[a,a]"
-[[can_assign]]
-admin = "adm"
-condition = "any"
-range = "[b,b]"
-[[profile]]
-roles = ["adm"]
-most = 1
-;
-version = 1
-separate = false
-roles = ["adm", "a", "b"]
-admin_roles = []
-edges = []
-goal = ["a and b"]
-[[can_assign]]
-admin = "adm"
-condition = "any"
-range = "[a,a]"
-[[can_assign]]
-admin = "adm"
-condition = "any"
-range = "[b,b]"
-[[profile]]
-roles = ["adm"]
-most = 1
+ => separate false
+admins:
+role adm
+role c
+assign 0 lacks 0 1 1 false false
+revoke 0 0 0 false false
+profile 1: 0
+goal has 1
 ;
 version = 1
 separate = true
@@ -125,6 +100,55 @@ most = "any"
 [[profile]]
 roles = ["SSO"]
 most = 1
+ => separate true
+admins: 11 12 13 14
+role E
+role ED
+role E1
+role PE1
+role QE1
+role PL1
+role E2
+role PE2
+role QE2
+role PL2
+role DIR
+role SSO
+role DSO
+role PSO1
+role PSO2
+edge 10 5
+edge 10 9
+edge 5 3
+edge 5 4
+edge 3 2
+edge 4 2
+edge 9 7
+edge 9 8
+edge 7 6
+edge 8 6
+edge 2 1
+edge 6 1
+edge 1 0
+edge 11 12
+edge 12 13
+edge 12 14
+assign 11 has 0 1 1 false false
+assign 13 has 1 2 2 false false
+assign 13 and 3 3 false false
+assign 13 and 4 4 false false
+assign 13 and 5 5 false false
+assign 14 has 1 6 6 false false
+assign 14 and 7 7 false false
+assign 14 and 8 8 false false
+assign 14 and 9 9 false false
+revoke 13 2 5 false true
+revoke 14 6 9 false true
+assignp 13 has 2 3 5 false false
+revokep 13 2 5 false false
+profile any: 0
+profile 1: 11
+goal has 5
 ;
 version = 1
 separate = true
@@ -155,12 +179,47 @@ most = 0
 [[profile]]
 roles = ["E", "SSO"]
 most = 1000000
+ => separate true
+admins: 1 3
+role E
+role SSO
+role PL1
+role DSO
+edge 2 0
+edge 1 3
+assign 1 any 0 2 true false
+revoke 1 0 2 false true
+assignp 3 or 0 2 false false
+revokep 3 0 2 true true
+profile any: 0
+profile 0:
+profile 1000000: 0 1
+goal has 2
+goal and
 ;
 version = 1
 separate = false
 roles = ["a"]
 admin_roles = []
 edges = []
+ => separate false
+admins:
+role a
+"#;
+
+/// What an administrator may do with two roles, and what both together are wanted for.
+const TWO_ROLES: &str = r#"goal = ["a and b"]
+[[can_assign]]
+admin = "adm"
+condition = "any"
+range = "[a,a]"
+[[can_assign]]
+admin = "adm"
+condition = "any"
+range = "[b,b]"
+[[profile]]
+roles = ["adm"]
+most = 1
 "#;
 
 /// Other texts, each with the one that is written for its question: `TEXT => WRITTEN`. In the second a set is listed out of
@@ -204,6 +263,20 @@ edges = []
 exclusive = [["c", "a"], ["a", "b"], ["c", "a"]]
 "#;
 
+/// The text of the two roles in a version, with these pairs.
+fn two_roles(alloc: Global, version: u32, pairs: &str) -> Result<String, AllocError> {
+    format!(in alloc;
+        "version = {version}\nseparate = false\nroles = [\"adm\", \"a\", \"b\"]\nadmin_roles = []\nedges = []\n{pairs}{TWO_ROLES}"
+    )
+}
+
+/// The lines of its question, with those of the pairs.
+fn two_roles_lines(alloc: Global, pairs: &str) -> Result<String, AllocError> {
+    format!(in alloc;
+        "separate false\nadmins:\nrole adm\nrole a\nrole b\n{pairs}assign 0 any 1 1 false false\nassign 0 any 2 2 false false\nprofile 1: 0\ngoal and\n"
+    )
+}
+
 /// The text that is written for the question that was read.
 fn rewritten(alloc: Global, text: &str) -> Result<Vec<u8>, QuestionError> {
     let question = read_question(alloc, text.as_bytes(), false)?;
@@ -211,13 +284,37 @@ fn rewritten(alloc: Global, text: &str) -> Result<Vec<u8>, QuestionError> {
     Ok(bytes)
 }
 
+/// The text is read as a question of these lines, and is what is written for it.
+fn read_and_written(rt: &impl Abort, alloc: Global, text: &str, lines: &str) -> Result<(), Fail> {
+    let question = read_question(alloc, text.as_bytes(), false)?;
+    let found = lines_of(alloc, &question)?;
+    assert_eq!(rt; found.as_str(), lines, "{text}");
+    let bytes = write_question(alloc, &question)?;
+    assert_eq!(rt; bytes.as_slice(), text.as_bytes(), "{text}");
+    Ok(())
+}
+
 #[test]
-fn questions_are_written(rt: HostRuntime) -> Result<(), Fail> {
+fn questions_are_read_and_written(rt: HostRuntime) -> Result<(), Fail> {
     let alloc = rt.alloc();
-    for text in WRITTEN.split(";\n") {
-        let bytes = rewritten(alloc, text)?;
-        assert_eq!(rt; bytes.as_slice(), text.as_bytes(), "{text}");
+    for row in WRITTEN.split(";\n") {
+        let (text, lines) = row.split_once(" => ").ok_or("a row has no lines")?;
+        read_and_written(&rt, alloc, text, lines)?;
     }
+    for (version, pairs, listed) in [
+        (2, "exclusive = [[\"a\", \"b\"]]\n", "exclusive 1 2\n"),
+        (1, "", ""),
+    ] {
+        let text = two_roles(alloc, version, pairs)?;
+        let lines = two_roles_lines(alloc, listed)?;
+        read_and_written(&rt, alloc, text.as_str(), lines.as_str())?;
+    }
+    Ok(())
+}
+
+#[test]
+fn other_texts_are_written_anew(rt: HostRuntime) -> Result<(), Fail> {
+    let alloc = rt.alloc();
     for row in REWRITTEN.split(";\n") {
         let (text, written) = row.split_once(" => ").ok_or("a row has no answer")?;
         let bytes = rewritten(alloc, text)?;

@@ -5,20 +5,23 @@ ghost use Rattle.std.specs.List.{flat_map};
 ghost use Rattle.list_words.specs.Lists.{Each};
 ghost use Rattle.arbac_policy.specs.Truth.{term_of, IsKnown};
 ghost use Rattle.arbac_policy.specs.Rules.{IsKnownAssign, IsKnownRevoke, IsKnownPair, IsKnownRange};
-ghost use Rattle.policy_text.specs.Runs.{plain_rule};
+ghost use Rattle.arbac_policy.specs.PlainRules.{plain_rule};
 ghost use Rattle.question_text.specs.Documents.{document};
 ghost use Rattle.question_text.specs.Rules.{IsSet, IsProfile, KeepsRules};
-ghost use Rattle.question_writer.specs.Texts.{line, quoted, listed, role_text, pair_text, condition_text, range_text, truth_text, most_text, version_text, exclusive_text, goal_text, assign_text, revoke_text, profile_text, keys_text, tables_text, question_text};
+ghost use Rattle.question_writer.specs.Texts.{line, quoted, listed, role_text, pair_text, condition_text, range_text, truth_text, most_text, version_text};
+ghost use Rattle.question_writer.specs.Texts.{exclusive_text, goal_text, assign_text, revoke_text, profile_text, keys_text, tables_text, question_text};
 ghost use Rattle.question_text.specs.Values.{plain_of};
 
+use crate::NoMemory;
 use crate::pieces::{
-    put, put_condition, put_conditions, put_header, put_key, put_names, put_number, put_pairs,
-    put_quoted, put_range, put_role, put_roles, roles_of,
+    put_condition, put_conditions, put_header, put_key, put_names, put_pairs, put_quoted,
+    put_range, put_role, put_roles, roles_of,
 };
 use arbac_policy::{CanAssign, CanRevoke, Cond, Profile};
 use question_text::Question;
 use role_order::{Order, Range, RoleSet};
 use std::alloc::{AllocError, Global};
+use text_pieces::{put, put_number};
 
 fn version_word(pairs: &[(u16, u16)]) -> &'static str
     ensures { result.now ≡ version_text pairs.now }
@@ -164,7 +167,7 @@ fn put_most(alloc: Global, text: &mut Vec<u8>, most: Option<u32>) -> Result<(), 
     ensures { OnOk result (text.new.items ≡ text.old.items ++ most_text most) }
 {
     match most {
-        Some(most) => put_number(alloc, text, most)?,
+        Some(most) => put_number(alloc, text, most as u64)?,
         None => put_quoted(text, "any")?,
     }
     Ok(())
@@ -307,7 +310,7 @@ fn put_tables(alloc: Global, text: &mut Vec<u8>, question: &Question) -> Result<
 }
 
 /// The text of the question, which reads as the question.
-pub fn write_question(alloc: Global, question: &Question) -> Result<Vec<u8>, AllocError>
+pub fn write_question(alloc: Global, question: &Question) -> Result<Vec<u8>, NoMemory>
     requires { KeepsRules (plain_of question.now) }
     ensures text { IfOk result (λ bytes. bytes.items ≡ question_text (plain_of question.now)) }
     // The text stands for the question, also where a goal is needed, unless the question has none.

@@ -8,7 +8,8 @@ lifted : (m n : ℕ) → nat_lt (suc m) (suc n) ≡ nat_lt m n
 lifted m n = grind (arith, nat_tests)
 
 -- where the shorter list ends, the shorter one comes first
-pub before_end : (at : ℕ) (xs ys : List (List ℕ)) → at ≡ min (length xs) (length ys) → nat_lt (length xs) (length ys) ≡ hits_before (drop at xs) (drop at ys)
+pub before_end : (at : ℕ) (xs ys : List (List ℕ)) → at ≡ min (length xs) (length ys) → nat_lt (length xs) (length ys) ≡ hits_before (drop at xs)
+    (drop at ys)
 before_end zero [] [] e = refl
 before_end zero [] (y ∷ ys) e = grind (arith, nat_tests)
 before_end zero (x ∷ xs) [] e = grind (arith, nat_tests)

@@ -4,5 +4,3 @@ pub mod CoverLemmas
 pub mod FormLemmas
 pub mod HitLemmas
 pub mod MeetLemmas
-pub mod PairLemmas
-pub mod ServeLemmas

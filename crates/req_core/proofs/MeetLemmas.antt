@@ -7,25 +7,11 @@ use Rattle.role_order.specs.Roles.{has_role, have_common, IsIn, HaveCommon}
 use Rattle.list_words.proofs.TestLemmas.{not_false, or_cases, or_right}
 use Rattle.arbac_laws.specs.Needs.{Need, MeetsNeed}
 use Rattle.arbac_laws.proofs.SameLemmas.{all_each, each_all}
-
-common_is : (xs ys : List ℕ) → have_common xs ys ≡ true → HaveCommon xs ys
-common_is [] ys e = cc
-common_is (x ∷ xs) ys e = by_case (or_cases (has_role ys x) (have_common xs ys) e) (common_is xs ys)
-  where
-    by_case : IsIn ys x ⊎ (have_common xs ys ≡ true) → (have_common xs ys ≡ true → HaveCommon xs ys) → HaveCommon (x ∷ xs) ys
-    by_case (inl k) rest = (x, rw (eq-eqb x x refl) refl, k)
-    by_case (inr k) rest = let r = rest k in (r.0, or_right (eqb x r.0) (has_role xs r.0) r.1, r.2)
-
-is_common : (xs ys : List ℕ) → HaveCommon xs ys → have_common xs ys ≡ true
-is_common [] ys c = let no : false ≡ true = c.1 in cc
-is_common (x ∷ xs) ys c = by_case (or_cases (eqb x c.0) (has_role xs c.0) c.1) (λ i. is_common xs ys (c.0, i, c.2))
-  where
-    by_case : (eqb x c.0 ≡ true) ⊎ IsIn xs c.0 → (IsIn xs c.0 → have_common xs ys ≡ true) → have_common (x ∷ xs) ys ≡ true
-    by_case (inl e) rest = let here : IsIn ys x = subst (λ r. IsIn ys r) (sym (eqb-true x c.0 e)) c.2 in rw here refl
-    by_case (inr i) rest = or_right (has_role ys x) (have_common xs ys) (rest i)
+use Rattle.arbac_laws.proofs.GainLemmas.{common_is, is_common}
 
 -- a role of each hit and none of the lacks: the requirement is met
-pub met_by : (need : Need) (set : List ℕ) → list_all (λ hit. have_common hit set) need.hits ≡ true → have_common need.lacks set ≡ false → MeetsNeed need set
+pub met_by : (need : Need) (set : List ℕ) → list_all (λ hit. have_common hit set) need.hits ≡ true → have_common need.lacks set ≡ false
+    → MeetsNeed need set
 met_by need set hits lacks = record {
   hits = all_each (λ hit. HaveCommon hit set) (λ hit. have_common hit set) (λ hit e. common_is hit set e) need.hits hits;
   lacks = λ role i j. let yes = is_common need.lacks set (role, i, j) in cc;

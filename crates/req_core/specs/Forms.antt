@@ -1,8 +1,14 @@
--- A normal form with one user more.
-use Rattle.std.specs.Prelude.{ℕ, ◌≡◌, ◌+◌, nat_lt, if◌then◌else◌, List, map}
+-- A sorted list with one item more, and a normal form with one user more.
+use Rattle.std.specs.Prelude.{ℕ, ◌≡◌, ◌+◌, ◌<◌, ◌≤◌, Bool, true, false, nat_lt, if◌then◌else◌, List, length, map, slice_get, Some}
 use Rattle.arbac_laws.specs.Needs.{Need}
 use Rattle.arbac_laws.specs.Orders.{need_before}
 use Rattle.arbac_laws.specs.NormalForms.{sort_by, normal_need, AreFormPlaces}
+
+-- the items before the place are before this one, and the item at the place is not
+pub record IsSpot {A : Type 0} (before : A → A → Bool) (x : A) (ys : List A) (at : ℕ) : Type 0 where
+  pub within : at ≤ length ys
+  pub earlier : (k : ℕ) (y : A) → k < at → slice_get ys k ≡ Some y → before y x ≡ true
+  pub here : (y : A) → slice_get ys at ≡ Some y → before y x ≡ false
 
 -- where a place goes when an item is put in: those from the item's place on go one further
 abbrev pub moved : ℕ → ℕ → ℕ

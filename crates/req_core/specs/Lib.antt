@@ -1,5 +1,2 @@
 pub mod Answers
-pub mod Covering
 pub mod Forms
-pub mod Raw
-pub mod Serving

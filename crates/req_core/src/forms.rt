@@ -1,31 +1,21 @@
 //! The normal form of a requirement.
 
-ghost use Rattle.std.specs.Prelude.{ℕ, ◌≡◌, ◌<◌, ◌≤◌, ◌+◌, ◌^◌, true, false, List, ◌∷◌, length, map, slice_get, Some, IfOk, IfSome, OnOk};
+ghost use Rattle.std.specs.Prelude.{ℕ, ◌≡◌, ◌<◌, ◌≤◌, ◌+◌, ◌^◌, true, false, List, ◌∷◌, length, map, slice_get, Some, IfOk};
+ghost use Rattle.std.specs.Prelude.{IfSome, OnOk};
 ghost use Rattle.list_words.specs.Lists.{Each};
 ghost use Rattle.arbac_laws.specs.Needs.{Need};
 ghost use Rattle.arbac_laws.specs.Orders.{need_before};
 ghost use Rattle.arbac_laws.specs.NormalForms.{normal_form, normal_need, insert_by, AreFormPlaces};
 ghost use Rattle.req_core.specs.Answers.{form_in};
 ghost use Rattle.req_core.specs.Forms.{moved, IsPlaced};
-ghost use Rattle.req_core.specs.Raw.{needs_of};
+ghost use Rattle.arbac_laws.specs.Views.{needs_of};
 
 use crate::answers::Normal;
 use crate::hits::normal_user;
-use crate::raw::RawUser;
 use crate::req::{Req, UserReq};
+use crate::sorted::place_of;
+use crate::{NoMemory, RawUser};
 use std::alloc::{AllocError, Global};
-
-/// The place of the first user requirement that isn't before this one.
-fn place_of(users: &[UserReq], user: &UserReq) -> usize
-    ensures within { result ≤ length users.now }
-    ensures before { (k : ℕ) (other : Need) → k < result → slice_get users.now k ≡ Some other → need_before other user.now ≡ true }
-    ensures here { (other : Need) → slice_get users.now result ≡ Some other → need_before other user.now ≡ false }
-{
-    users
-        .iter()
-        .position(|other| !other.before(user))
-        .unwrap_or(users.len())
-}
 
 /// One place further, from this place on.
 fn move_on(place: &mut u32, at: u32)
@@ -72,8 +62,8 @@ fn form_of(alloc: Global, raw: &[RawUser]) -> Result<Option<Normal>, AllocError>
     ensures form { IfOk result (λ normal. form_in normal ≡ normal_form (needs_of raw.now)) }
     ensures places { IfOk result (λ normal. IfSome normal (λ n. AreFormPlaces (needs_of raw.now) n.req n.places.items)) }
 {
-    let mut users = Vec::new(alloc);
-    let mut places = Vec::new(alloc);
+    let mut users = Vec::with_capacity(alloc, raw.len())?;
+    let mut places = Vec::with_capacity(alloc, raw.len())?;
     for at in (0..raw.len()).rev() {
         match normal_user(alloc, &raw[at])? {
             None => return Ok(None),
@@ -88,7 +78,7 @@ fn form_of(alloc: Global, raw: &[RawUser]) -> Result<Option<Normal>, AllocError>
 
 /// The normal form of the requirement; none exactly where it is impossible. The error is want of memory, or
 /// more users than 32 bits count.
-pub fn normal(alloc: Global, raw: &[RawUser]) -> Result<Option<Normal>, AllocError>
+pub fn normal(alloc: Global, raw: &[RawUser]) -> Result<Option<Normal>, NoMemory>
     ensures form { IfOk result (λ normal. form_in normal ≡ normal_form (needs_of raw.now)) }
     ensures places { IfOk result (λ normal. IfSome normal (λ n. AreFormPlaces (needs_of raw.now) n.req n.places.items)) }
 {

@@ -1,15 +1,18 @@
 //! The normal form of one user requirement.
 
-ghost use Rattle.std.specs.Prelude.{◌≡◌, ◌<◌, ◌≤◌, true, false, if◌then◌else◌, ℕ, List, length, slice_get, Option, Some, None, IfOk, IfSome, OnOk, option_map};
+ghost use Rattle.std.specs.Prelude.{◌≡◌, ◌<◌, ◌≤◌, true, false, if◌then◌else◌, ℕ, List, length, slice_get, Option, Some, None, IfOk};
+ghost use Rattle.std.specs.Prelude.{IfSome, OnOk, option_map};
 ghost use Rattle.std.specs.List.{list_any};
 ghost use Rattle.role_order.specs.Orders.{set_before};
 ghost use Rattle.arbac_laws.specs.PreImages.{is_empty};
-ghost use Rattle.arbac_laws.specs.NormalForms.{bare_hits as bare, is_less as less, least_hits, insert_once, sort_once, normal_need, AreSets, IsNormalNeed};
+ghost use Rattle.arbac_laws.specs.NormalForms as forms;
+ghost use Rattle.arbac_laws.specs.NormalForms.{least_hits, insert_once, sort_once, normal_need, AreSets, IsNormalNeed};
 ghost use Rattle.role_order.specs.Roles.{Rises};
-ghost use Rattle.req_core.specs.Raw.{need_of};
+ghost use Rattle.arbac_laws.specs.Views.{need_of};
 
-use crate::raw::RawUser;
+use crate::RawUser;
 use crate::req::UserReq;
+use crate::sorted::{Ranked, place_of};
 use role_order::RoleSet;
 use std::alloc::{AllocError, Global};
 
@@ -25,11 +28,11 @@ fn known(set: &RoleSet) -> RoleSet
 /// The hits without the lacks; none where one of them has no role left.
 fn bare_hits(alloc: Global, raw: &RawUser) -> Result<Option<Vec<RoleSet>>, AllocError>
     ensures hits { IfOk result (λ hits. option_map (λ list. list.items) hits
-        ≡ (if list_any is_empty (bare (need_of raw.now)) then None else Some (bare (need_of raw.now)))) }
+        ≡ (if list_any is_empty (forms.bare_hits (need_of raw.now)) then None else Some (forms.bare_hits (need_of raw.now)))) }
     ensures sets { IfOk result (λ hits. IfSome hits (λ _. AreSets (need_of raw.now))) }
 {
     let lacks = known(&raw.lacks);
-    let mut hits = Vec::new(alloc);
+    let mut hits = Vec::with_capacity(alloc, raw.hits.len())?;
     for hit in &raw.hits {
         let rest = known(hit).less(&lacks);
         if rest.within(&RoleSet::empty()) {
@@ -42,27 +45,24 @@ fn bare_hits(alloc: Global, raw: &RawUser) -> Result<Option<Vec<RoleSet>>, Alloc
 
 /// Whether it lies within the other, and not the other way round.
 fn is_less(hit: &RoleSet, other: &RoleSet) -> bool
-    ensures { result ≡ less hit.now other.now }
+    ensures { result ≡ forms.is_less hit.now other.now }
 {
     hit.within(other) && !other.within(hit)
 }
 
 /// Whether a different hit lies within it.
 fn some_less(hits: &[RoleSet], hit: &RoleSet) -> bool
-    ensures { result ≡ list_any (λ other. less other hit.now) hits.now }
+    ensures { result ≡ list_any (λ other. forms.is_less other hit.now) hits.now }
 {
     hits.iter().any(|other| is_less(other, hit))
 }
 
-/// The place of the first hit that isn't before this one.
-fn place_of(hits: &[RoleSet], hit: &RoleSet) -> usize
-    ensures within { result ≤ length hits.now }
-    ensures before { (k : ℕ) (other : List ℕ) → k < result → slice_get hits.now k ≡ Some other → set_before other hit.now ≡ true }
-    ensures here { (other : List ℕ) → slice_get hits.now result ≡ Some other → set_before other hit.now ≡ false }
-{
-    hits.iter()
-        .position(|other| !other.before(hit))
-        .unwrap_or(hits.len())
+impl Ranked for RoleSet {
+    ghost before = { set_before };
+
+    fn is_before(&self, other: &RoleSet) -> bool {
+        self.before(other)
+    }
 }
 
 /// Puts the hit in its place, if it isn't there.
@@ -78,7 +78,7 @@ fn insert(hits: &mut Vec<RoleSet>, hit: &RoleSet) -> Result<(), AllocError>
 
 /// Puts the hit in its place, if no different one lies within it.
 fn add_least(list: &mut Vec<RoleSet>, hits: &[RoleSet], hit: &RoleSet) -> Result<(), AllocError>
-    ensures { OnOk result (list.new.items ≡ (if list_any (λ other. less other hit.now) hits.now
+    ensures { OnOk result (list.new.items ≡ (if list_any (λ other. forms.is_less other hit.now) hits.now
         then list.old.items else insert_once set_before hit.now list.old.items)) }
 {
     if !some_less(hits, hit) {
@@ -91,27 +91,33 @@ fn add_least(list: &mut Vec<RoleSet>, hits: &[RoleSet], hit: &RoleSet) -> Result
 fn least_sorted(alloc: Global, hits: &[RoleSet]) -> Result<Vec<RoleSet>, AllocError>
     ensures { IfOk result (λ list. list.items ≡ sort_once set_before (least_hits hits.now)) }
 {
-    let mut list = Vec::new(alloc);
+    let mut list = Vec::with_capacity(alloc, hits.len())?;
     for at in (0..hits.len()).rev() {
         add_least(&mut list, hits, &hits[at])?;
     }
     Ok(list)
 }
 
+/// The user requirement of hits and lacks in normal form.
+fn made(hits: Vec<RoleSet>, lacks: RoleSet) -> UserReq
+    requires { IsNormalNeed (record { hits = hits.items; lacks = lacks }) }
+    ensures need { result ≡ record { hits = hits.items; lacks = lacks } }
+    ensures normal { IsNormalNeed result }
+{
+    UserReq { hits, lacks }
+}
+
 /// The user requirement in normal form; none where a hit has no role left.
 pub(crate) fn normal_user(alloc: Global, raw: &RawUser) -> Result<Option<UserReq>, AllocError>
     ensures need { IfOk result (λ user. user
-        ≡ (if list_any is_empty (bare (need_of raw.now)) then None else Some (normal_need (need_of raw.now)))) }
+        ≡ (if list_any is_empty (forms.bare_hits (need_of raw.now)) then None else Some (normal_need (need_of raw.now)))) }
     ensures normal { IfOk result (λ user. IfSome user IsNormalNeed) }
 {
     match bare_hits(alloc, raw)? {
         None => Ok(None),
         Some(hits) => {
             let hits = least_sorted(alloc, &hits)?;
-            Ok(Some(UserReq {
-                hits,
-                lacks: raw.lacks,
-            }))
+            Ok(Some(made(hits, raw.lacks)))
         }
     }
 }

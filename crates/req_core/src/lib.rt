@@ -5,17 +5,16 @@ mod answers;
 mod cover;
 mod forms;
 mod hits;
-mod pairs;
-mod raw;
 mod req;
 mod service;
+mod sorted;
 #[cfg(test)]
 mod tests;
 
 pub use answers::{Met, Normal};
+pub use arbac_policy::Conjunct as RawUser;
 pub use cover::covers;
 pub use forms::normal;
-pub use raw::RawUser;
 pub use req::{Req, UserReq, meets};
 pub use service::met;
 pub use std::alloc::AllocError as NoMemory;

@@ -7,6 +7,7 @@ ghost use Rattle.arbac_laws.specs.Needs.{MeetsNeed};
 ghost use Rattle.arbac_laws.specs.Orders.{hits_before, need_before};
 ghost use Rattle.arbac_laws.specs.NormalForms.{IsNormalNeed, IsNormal};
 
+use crate::sorted::Ranked;
 use role_order::RoleSet;
 use std::marker::Model;
 
@@ -76,11 +77,11 @@ fn hits_are_before(hits: &[RoleSet], others: &[RoleSet]) -> bool
     hits.len() < others.len()
 }
 
-impl UserReq {
-    /// Whether it comes before the other, by its hits and then by its lacks.
-    pub(crate) fn before(&self, other: &UserReq) -> bool
-        ensures { result ≡ need_before self.now other.now }
-    {
+impl Ranked for UserReq {
+    ghost before = { need_before };
+
+    /// By the hits, and then by the lacks.
+    fn is_before(&self, other: &UserReq) -> bool {
         hits_are_before(self.hits(), other.hits())
             || (!hits_are_before(other.hits(), self.hits()) && self.lacks().before(other.lacks()))
     }

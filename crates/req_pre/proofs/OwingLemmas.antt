@@ -1,5 +1,6 @@
 -- The lists of obligations that the loops build are those of the laws.
-use Rattle.std.proofs.Common.{ℕ, ◌≡◌, ◌≤◌, ◌<◌, ◌+◌, ◌-◌, ◌∙◌, Bool, true, false, not, List, [], ◌∷◌, ◌++◌, length, map, drop, Some, refl, zero, suc, ap, sym, append_assoc, arith, eqb}
+use Rattle.std.proofs.Common.{ℕ, ◌≡◌, ◌≤◌, ◌<◌, ◌+◌, ◌-◌, ◌∙◌, Bool, true, false, not, List, [], ◌∷◌, ◌++◌, length}
+use Rattle.std.proofs.Common.{map, drop, Some, refl, zero, suc, ap, sym, append_assoc, arith, eqb}
 use Rattle.std.specs.Prelude.{slice_get, filter, ◌↔◌}
 use Rattle.std.proofs.lemmas.List.{append-nil, drop_more, drop_all}
 use Rattle.list_words.proofs.GetLemmas.{get_within}
@@ -33,7 +34,8 @@ count_step f whole now new n i h grown before =
     ∙ sym (ap (λ l. now ++ flat f l) (count_next n i h))
     ∙ before
 
-pub count_end : {B : Type 0} (f : ℕ → List B) (whole now : List B) (n i : ℕ) → n ≤ i → now ++ flat f (count_up i (n - i)) ≡ whole → now ≡ whole
+pub count_end : {B : Type 0} (f : ℕ → List B) (whole now : List B) (n i : ℕ) → n ≤ i → now ++ flat f (count_up i (n - i)) ≡ whole
+    → now ≡ whole
 count_end f whole now n i h before =
     let e : n - i ≡ 0 = omega (arith, h) in
     let none : flat f (count_up i (n - i)) ≡ [] = rw e refl in
@@ -44,7 +46,8 @@ drop_next xs i x h =
     let at = get_within xs i x h in
     drop_more xs i x at.0 ∙ ap (λ y. y ∷ drop (i + 1) xs) (sym at.1)
 
-pub places_step : {A B : Type 0} (f : ℕ → A → List B) (whole now new : List B) (xs : List A) (i : ℕ) (x : A) → slice_get xs i ≡ Some x → new ≡ now ++ f i x
+pub places_step : {A B : Type 0} (f : ℕ → A → List B) (whole now new : List B) (xs : List A) (i : ℕ) (x : A) → slice_get xs i ≡ Some x
+    → new ≡ now ++ f i x
     → now ++ flat_places f i (drop i xs) ≡ whole → new ++ flat_places f (i + 1) (drop (i + 1) xs) ≡ whole
 places_step f whole now new xs i x at grown before =
     ap (λ l. l ++ flat_places f (i + 1) (drop (i + 1) xs)) grown
@@ -76,7 +79,8 @@ pub flat_same : {A B : Type 0} (f g : A → List B) → ((x : A) → f x ≡ g x
 flat_same f g same [] = refl
 flat_same f g same (x ∷ xs) = ap (λ l. l ++ flat f xs) (same x) ∙ ap (λ l. g x ++ l) (flat_same f g same xs)
 
-pub places_same : {A B : Type 0} (f g : ℕ → A → List B) → ((i : ℕ) (x : A) → f i x ≡ g i x) → (at : ℕ) (xs : List A) → flat_places f at xs ≡ flat_places g at xs
+pub places_same : {A B : Type 0} (f g : ℕ → A → List B) → ((i : ℕ) (x : A) → f i x ≡ g i x) → (at : ℕ) (xs : List A)
+    → flat_places f at xs ≡ flat_places g at xs
 places_same f g same at [] = refl
 places_same f g same at (x ∷ xs) = ap (λ l. l ++ flat_places f (at + 1) xs) (same at x) ∙ ap (λ l. g at x ++ l) (places_same f g same (at + 1) xs)
 
@@ -84,7 +88,8 @@ pub flat_append : {A B : Type 0} (f : A → List B) (xs ys : List A) → flat f 
 flat_append f [] ys = refl
 flat_append f (x ∷ xs) ys = ap (λ l. f x ++ l) (flat_append f xs ys) ∙ sym (append_assoc (f x) (flat f xs) (flat f ys))
 
-pub flat_of_places : {A B C : Type 0} (f : B → List C) (g : ℕ → A → List B) (at : ℕ) (xs : List A) → flat f (flat_places g at xs) ≡ flat_places (λ i x. flat f (g i x)) at xs
+pub flat_of_places : {A B C : Type 0} (f : B → List C) (g : ℕ → A → List B) (at : ℕ) (xs : List A)
+    → flat f (flat_places g at xs) ≡ flat_places (λ i x. flat f (g i x)) at xs
 flat_of_places f g at [] = refl
 flat_of_places f g at (x ∷ xs) = flat_append f (g at x) (flat_places g (at + 1) xs) ∙ ap (λ l. flat f (g at x) ++ l) (flat_of_places f g (at + 1) xs)
 
@@ -101,7 +106,8 @@ pub flat_filter : (f : ℕ → List Owed) (test : ℕ → Bool) (xs : List ℕ) 
 flat_filter f test [] = refl
 flat_filter f test (x ∷ xs) = by_test (test x) refl (flat_filter f test xs)
   where
-    by_test : (t : Bool) → test x ≡ t → flat f (filter test xs) ≡ flat (λ x. only_if (test x) (f x)) xs → flat f (filter test (x ∷ xs)) ≡ only_if (test x) (f x) ++ flat (λ x. only_if (test x) (f x)) xs
+    by_test : (t : Bool) → test x ≡ t → flat f (filter test xs) ≡ flat (λ x. only_if (test x) (f x)) xs
+        → flat f (filter test (x ∷ xs)) ≡ only_if (test x) (f x) ++ flat (λ x. only_if (test x) (f x)) xs
     by_test true e rest = rw e (ap (λ l. f x ++ l) rest)
     by_test false e rest = rw e rest
 
@@ -118,7 +124,8 @@ others origin role target (x ∷ xs) = by_test (not (eqb x target)) refl (others
   where
     by_test : (t : Bool) → not (eqb x target) ≡ t
         → map (act_by origin role target) (map other (filter (λ place. not (eqb place target)) xs)) ≡ flat (by_other origin role target) xs
-        → map (act_by origin role target) (map other (filter (λ place. not (eqb place target)) (x ∷ xs))) ≡ by_other origin role target x ++ flat (by_other origin role target) xs
+        → map (act_by origin role target) (map other (filter (λ place. not (eqb place target)) (x ∷ xs)))
+        ≡ by_other origin role target x ++ flat (by_other origin role target) xs
     by_test true e rest = rw e (ap (λ l. act_by origin role target (other x) ∷ l) rest)
     by_test false e rest = rw e rest
 
@@ -129,11 +136,14 @@ picks_are origin role target count =
     ∙ ap (λ l. l ++ act_by origin role target fresh ∷ []) (others origin role target (count_up 0 count)))
 
 pub targets_are : (origin : Origin) (role : ℕ) (needs : List Need)
-    → flat (λ target. map (act_by origin role target) (picks target (length needs))) (flat_places (λ place need. if_wanted (is_of_use origin role need) place) 0 needs)
+    → flat (λ target. map (act_by origin role target) (picks target (length needs)))
+    (flat_places (λ place need. if_wanted (is_of_use origin role need) place) 0 needs)
     ≡ by_targets origin needs role
 targets_are origin role needs =
-    flat_of_places (λ target. map (act_by origin role target) (picks target (length needs))) (λ place need. if_wanted (is_of_use origin role need) place) 0 needs
-    ∙ places_same (λ place need. flat (λ target. map (act_by origin role target) (picks target (length needs))) (if_wanted (is_of_use origin role need) place))
+    flat_of_places (λ target. map (act_by origin role target) (picks target (length needs)))
+    (λ place need. if_wanted (is_of_use origin role need) place) 0 needs
+    ∙ places_same (λ place need. flat (λ target. map (act_by origin role target) (picks target (length needs)))
+    (if_wanted (is_of_use origin role need) place))
     (by_target origin role (length needs))
     (λ place need. flat_wanted (λ target. map (act_by origin role target) (picks target (length needs))) (is_of_use origin role need) place
     ∙ ap (only_if (is_of_use origin role need)) (picks_are origin role place (length needs)))
@@ -142,12 +152,15 @@ targets_are origin role needs =
 -- by role of the range and by target, as the laws list an origin's acts
 abbrev pub of_origin : Origin → Graph → Range → List Need → List Owed
 of_origin origin order range needs =
-    flat (λ role. flat (λ target. map (act_by origin role target) (picks target (length needs))) (flat_places (λ place need. if_wanted (is_of_use origin role need) place) 0 needs))
+    flat (λ role. flat (λ target. map (act_by origin role target) (picks target (length needs)))
+    (flat_places (λ place need. if_wanted (is_of_use origin role need) place) 0 needs))
     (roles_in order range)
 
-pub roles_are : (origin : Origin) (order : Graph) (range : Range) (needs : List Need) → of_origin origin order range needs ≡ by_roles origin order range needs
+pub roles_are : (origin : Origin) (order : Graph) (range : Range) (needs : List Need)
+    → of_origin origin order range needs ≡ by_roles origin order range needs
 roles_are origin order range needs =
-    flat_same (λ role. flat (λ target. map (act_by origin role target) (picks target (length needs))) (flat_places (λ place need. if_wanted (is_of_use origin role need) place) 0 needs))
+    flat_same (λ role. flat (λ target. map (act_by origin role target) (picks target (length needs)))
+    (flat_places (λ place need. if_wanted (is_of_use origin role need) place) 0 needs))
     (by_targets origin needs) (λ role. targets_are origin role needs) (roles_in order range)
     ∙ flat_filter (by_targets origin needs) (is_in_range order range) (count_up 0 (length order.names))
 
@@ -163,7 +176,8 @@ pub obligations_are : (rules : Rules) (needs : List Need)
     → flat_places (by_assign rules needs) 0 rules.assign ++ flat_places (by_revoke rules needs) 0 rules.revoke ≡ obligations rules needs
 obligations_are rules needs =
     sym (ap (λ l. l ++ flat_places (λ i rule. of_origin (Weak i) rules.order rule.range needs) 0 rules.revoke)
-    (places_same (λ i rule. flat_places (λ j conjunct. of_origin (Assign i j) rules.order rule.range needs) 0 (conjuncts_of rules rule)) (by_assign rules needs)
+    (places_same (λ i rule. flat_places (λ j conjunct. of_origin (Assign i j) rules.order rule.range needs) 0 (conjuncts_of rules rule))
+    (by_assign rules needs)
     (λ i rule. assign_are rules needs i rule) 0 rules.assign)
     ∙ ap (λ l. flat_places (by_assign rules needs) 0 rules.assign ++ l)
     (places_same (λ i rule. of_origin (Weak i) rules.order rule.range needs) (by_revoke rules needs)

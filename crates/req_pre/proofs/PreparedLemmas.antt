@@ -1,5 +1,6 @@
 -- Rules and their lists of conjuncts, place by place.
-use Rattle.std.proofs.Common.{ℕ, zero, suc, ◌≡◌, ◌<◌, ◌≤◌, ◌+◌, ◌∙◌, true, List, [], ◌∷◌, ◌++◌, length, map, take, get_or, Some, Vec, Global, sym, ap, arith}
+use Rattle.std.proofs.Common.{ℕ, zero, suc, ◌≡◌, ◌<◌, ◌≤◌, ◌+◌, ◌∙◌, true, List, [], ◌∷◌, ◌++◌, length, map, take}
+use Rattle.std.proofs.Common.{get_or, Some, Vec, Global, sym, ap, arith}
 use Rattle.std.specs.Prelude.{nat_lt, slice_get}
 use Rattle.std.proofs.lemmas.Bool.Decides.{nat_tests}
 use Rattle.list_words.proofs.GetLemmas.{get_at, take_one_more}
@@ -10,13 +11,15 @@ use Rattle.arbac_policy.specs.Rules.{Rules}
 use Rattle.arbac_policy.specs.Truth.{term_of}
 use Rattle.list_words.specs.Lists.{IsFirst}
 use Rattle.arbac_laws.specs.Needs.{Need}
-use Rattle.arbac_rules.specs.declared.conjunct.Conjunct.{Conjunct}
+use Rattle.arbac_policy.specs.declared.conjunct.Conjunct.{Conjunct}
 use Rattle.arbac_rules.specs.declared.TheConstants.{MOST_CONJUNCTS}
 use Rattle.arbac_rules.specs.declared.listing.WideError.TheVariants.{TooWide}
-use Rattle.arbac_rules.specs.Views.{needs_of, IsTooWide as IsTooWideList}
+use Rattle.arbac_laws.specs.Views.{needs_of}
+use Rattle.arbac_rules.specs.Widths.{IsTooWide as IsTooWideList}
 use Rattle.arbac_rules.specs.Widths.{width}
 use Rattle.arbac_rules.proofs.WidthLemmas.{width_law}
-use Rattle.req_pre.specs.Preparing.{conjuncts_of, lists_of, IsWide}
+use Rattle.req_pre.specs.Preparing.{conjuncts_of, IsWide}
+use Rattle.req_pre.specs.Views.{lists_of}
 
 pub at_mapped : {A B : Type 0} (f : A → B) (xs : List A) (k : ℕ) (x : A) → slice_get xs k ≡ Some x → slice_get (map f xs) k ≡ Some (f x)
 at_mapped f [] k x e = cc

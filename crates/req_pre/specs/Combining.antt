@@ -1,28 +1,11 @@
 -- Goals that have too many combinations of one conjunct of each condition.
-use Rattle.std.specs.Prelude.{ℕ, ◌≡◌, ◌*◌, nat_lt, if◌then◌else◌, List, [], ◌∷◌, Option, Some, None, map, Vec}
-use Rattle.std.specs.declared.alloc.Global.{Global}
+use Rattle.std.specs.Prelude.{◌≡◌, List, Some}
 use Rattle.arbac_policy.specs.Truth.{Term}
-use Rattle.arbac_laws.specs.Needs.{Need}
-use Rattle.req_core.specs.declared.raw.RawUser.{RawUser}
-use Rattle.req_core.specs.Raw.{needs_of}
-use Rattle.arbac_rules.specs.declared.TheConstants.{MOST_CONJUNCTS}
-use Rattle.arbac_rules.specs.Widths.{width}
+use Rattle.arbac_rules.specs.Widths.{too_many}
 use Rattle.arbac_rules.specs.declared.listing.WideError.{WideError}
 use Rattle.arbac_rules.specs.declared.listing.WideError.TheVariants.{TooWide, Memory}
 
--- behind conditions with so many combinations: how many there are with the first condition at which
--- they are too many; none where they never are
-abbrev pub too_many : ℕ → List Term → Option ℕ
-too_many combinations [] = None
-too_many combinations (cond ∷ conds) =
-    if nat_lt MOST_CONJUNCTS (combinations * width cond) then Some (combinations * width cond)
-    else too_many (combinations * width cond) conds
-
--- raw requirements as they are seen
-abbrev pub raws_of : List (Vec RawUser Global) → List (List Need)
-raws_of raws = map (λ raw. needs_of raw.items) raws
-
--- the error tells that number
+-- the error tells how many combinations there are with the first condition at which they are too many
 abbrev pub IsTooMany : List Term → WideError → Type 0
-IsTooMany goal (TooWide count) = too_many 1 goal ≡ Some count
+IsTooMany goal (TooWide count) = too_many goal ≡ Some count
 IsTooMany goal Memory = Unit {0}

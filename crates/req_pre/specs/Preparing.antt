@@ -9,9 +9,9 @@ use Rattle.cond_text.specs.Grammar.{term_count}
 use Rattle.cond_text.specs.declared.TheConstants.{MOST_TERMS}
 use Rattle.arbac_laws.specs.Needs.{Need}
 use Rattle.arbac_laws.specs.Conjuncts.{conjuncts}
-use Rattle.arbac_rules.specs.declared.conjunct.Conjunct.{Conjunct}
+use Rattle.arbac_policy.specs.declared.conjunct.Conjunct.{Conjunct}
 use Rattle.arbac_rules.specs.declared.TheConstants.{MOST_CONJUNCTS}
-use Rattle.arbac_rules.specs.Views.{needs_of}
+use Rattle.arbac_laws.specs.Views.{needs_of}
 use Rattle.arbac_rules.specs.Widths.{width}
 use Rattle.req_pre.specs.declared.answers.PrepareError.{PrepareError}
 use Rattle.req_pre.specs.declared.answers.PrepareError.TheVariants.{TooWide, Memory}
@@ -19,10 +19,6 @@ use Rattle.req_pre.specs.declared.answers.PrepareError.TheVariants.{TooWide, Mem
 -- the conjuncts of the rule's condition
 abbrev pub conjuncts_of : Rules → CanAssign → List Need
 conjuncts_of rules rule = conjuncts rules.order (term_of rule.cond)
-
--- lists of conjuncts as they are seen
-abbrev pub lists_of : List (Vec Conjunct Global) → List (List Need)
-lists_of lists = map (λ list. needs_of list.items) lists
 
 -- no condition of a rule has more terms than may be written
 abbrev pub AreShort : Rules → Type 0

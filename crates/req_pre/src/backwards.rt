@@ -1,6 +1,7 @@
 //! Pre-images.
 
-ghost use Rattle.std.specs.Prelude.{ℕ, ◌≡◌, ◌<◌, ◌++◌, [], ◌∷◌, not, if◌then◌else◌, length, map, filter, slice_get, slice_set, option_map, IfOk, IfSome, OnOk};
+ghost use Rattle.std.specs.Prelude.{ℕ, ◌≡◌, ◌<◌, ◌++◌, [], ◌∷◌, not, if◌then◌else◌, length, map, filter, slice_get, slice_set};
+ghost use Rattle.std.specs.Prelude.{option_map, IfOk, IfSome, OnOk};
 ghost use Rattle.std.specs.List.{list_any};
 ghost use Rattle.list_words.specs.Lists.{Each};
 ghost use Rattle.role_order.specs.Reach.{seniors_of};
@@ -10,16 +11,18 @@ ghost use Rattle.arbac_policy.specs.declared.rule.CanRevoke.{CanRevoke};
 ghost use Rattle.arbac_policy.specs.Rules.{IsKnownPair};
 ghost use Rattle.arbac_laws.specs.Obligations.{and_then, assigns, revokes};
 ghost use Rattle.arbac_laws.specs.NormalForms.{normal_form, pre_form, AreFormPlaces};
-ghost use Rattle.arbac_laws.specs.PreImages.{is_barred as are_barred, barred as all_barred, before_assign as assigned, before_weak as weakened, is_empty as has_none, add_hit as and_hit, change_at, with_admin};
-ghost use Rattle.arbac_rules.specs.Views.{need_of as wanted_of};
+ghost use Rattle.arbac_laws.specs.PreImages as laws;
+ghost use Rattle.arbac_laws.specs.PreImages.{change_at, with_admin};
 ghost use Rattle.req_core.specs.Answers.{form_in};
-ghost use Rattle.req_core.specs.Raw.{need_of, needs_of};
+ghost use Rattle.arbac_laws.specs.Views.{need_of, needs_of};
 ghost use Rattle.req_pre.specs.Preparing.{conjuncts_of};
 ghost use Rattle.req_pre.specs.Views.{owed_of, pick_of};
 ghost use Rattle.req_pre.specs.Answers.{ArePrePlaces};
 
+use crate::NoMemory;
 use crate::owed::{Obligation, Pick};
 use crate::prepared::Prepared;
+use crate::raw::raw_user;
 use arbac_policy::Policy;
 use arbac_rules::Conjunct;
 use req_core::{Normal, RawUser, Req, UserReq, normal};
@@ -29,7 +32,7 @@ use std::alloc::{AllocError, Global};
 /// Whether the role is above both roles of a pair.
 fn is_barred(order: &Order, role: u16, pairs: &[(u16, u16)]) -> bool
     requires { Each (IsKnownPair (length order.now.names)) pairs.now }
-    ensures { result ≡ are_barred order.now role pairs.now }
+    ensures { result ≡ laws.is_barred order.now role pairs.now }
 {
     for &pair in pairs {
         if order.seniors(pair.0).has(role) && order.seniors(pair.1).has(role) {
@@ -55,7 +58,7 @@ fn barred_by(order: &Order, role: u16, first: u16, second: u16) -> RoleSet
 /// What the pairs bar from whoever is given the role.
 fn barred(order: &Order, role: u16, pairs: &[(u16, u16)]) -> RoleSet
     requires { Each (IsKnownPair (length order.now.names)) pairs.now }
-    ensures { result ≡ all_barred order.now role pairs.now }
+    ensures { result ≡ laws.barred order.now role pairs.now }
 {
     let mut all = RoleSet::empty();
     for at in (0..pairs.len()).rev() {
@@ -70,7 +73,7 @@ fn barred(order: &Order, role: u16, pairs: &[(u16, u16)]) -> RoleSet
 fn other_hits(alloc: Global, role: u16, hits: &[RoleSet]) -> Result<Vec<RoleSet>, AllocError>
     ensures { IfOk result (λ list. list.items ≡ filter (λ hit. not (has_role hit role)) hits.now) }
 {
-    let mut list = Vec::new(alloc);
+    let mut list = Vec::with_capacity(alloc, hits.len())?;
     for hit in hits {
         if !hit.has(role) {
             list.push(*hit)?;
@@ -88,9 +91,9 @@ fn before_given(
     user: &UserReq,
 ) -> Result<RawUser, AllocError>
     ensures hits { IfOk result (λ raw. (need_of raw).hits
-        ≡ filter (λ hit. not (has_role hit role)) user.now.hits ++ (wanted_of conjunct.now).hits) }
+        ≡ filter (λ hit. not (has_role hit role)) user.now.hits ++ (need_of conjunct.now).hits) }
     ensures lacks { IfOk result (λ raw. (need_of raw).lacks ≡ join_roles user.now.lacks
-        (join_roles (wanted_of conjunct.now).lacks (all_barred policy.now.order role policy.now.exclusive))) }
+        (join_roles (need_of conjunct.now).lacks (laws.barred policy.now.order role policy.now.exclusive))) }
 {
     let mut hits = other_hits(alloc, role, user.hits())?;
     hits.extend_from_slice(&conjunct.hits)?;
@@ -107,7 +110,7 @@ fn before_assign(
     role: u16,
     user: &UserReq,
 ) -> Result<Option<RawUser>, AllocError>
-    ensures { IfOk result (λ raw. option_map need_of raw ≡ assigned policy.now (wanted_of conjunct.now) role user.now) }
+    ensures { IfOk result (λ raw. option_map need_of raw ≡ laws.before_assign policy.now (need_of conjunct.now) role user.now) }
 {
     if user.lacks().has(role) || is_barred(policy.order(), role, policy.exclusive()) {
         return Ok(None);
@@ -118,14 +121,14 @@ fn before_assign(
 
 /// Whether the set has no other role.
 fn is_alone(hit: &RoleSet, role: u16) -> bool
-    ensures { result ≡ has_none (without_role hit.now role) }
+    ensures { result ≡ laws.is_empty (without_role hit.now role) }
 {
     hit.without(role).within(&RoleSet::empty())
 }
 
 /// Whether some hit has no other role.
 fn has_alone(hits: &[RoleSet], role: u16) -> bool
-    ensures { result ≡ list_any (λ hit. has_none (without_role hit role)) hits.now }
+    ensures { result ≡ list_any (λ hit. laws.is_empty (without_role hit role)) hits.now }
 {
     hits.iter().any(|hit| is_alone(hit, role))
 }
@@ -134,7 +137,7 @@ fn has_alone(hits: &[RoleSet], role: u16) -> bool
 fn hits_without(alloc: Global, role: u16, hits: &[RoleSet]) -> Result<Vec<RoleSet>, AllocError>
     ensures { IfOk result (λ list. list.items ≡ map (λ hit. without_role hit role) hits.now) }
 {
-    let mut list = Vec::new(alloc);
+    let mut list = Vec::with_capacity(alloc, hits.len())?;
     for hit in hits {
         list.push(hit.without(role))?;
     }
@@ -143,7 +146,7 @@ fn hits_without(alloc: Global, role: u16, hits: &[RoleSet]) -> Result<Vec<RoleSe
 
 /// What the target must meet before it loses the role.
 fn before_weak(alloc: Global, role: u16, user: &UserReq) -> Result<Option<RawUser>, AllocError>
-    ensures { IfOk result (λ raw. option_map need_of raw ≡ weakened role user.now) }
+    ensures { IfOk result (λ raw. option_map need_of raw ≡ laws.before_weak role user.now) }
 {
     if has_alone(user.hits(), role) {
         return Ok(None);
@@ -153,33 +156,21 @@ fn before_weak(alloc: Global, role: u16, user: &UserReq) -> Result<Option<RawUse
     Ok(Some(RawUser { hits, lacks }))
 }
 
-/// The user requirement in a value of its own.
-fn raw_user(alloc: Global, user: &UserReq) -> Result<RawUser, AllocError>
-    ensures { IfOk result (λ raw. need_of raw ≡ user.now) }
-{
-    let mut hits = Vec::new(alloc);
-    hits.extend_from_slice(user.hits())?;
-    Ok(RawUser {
-        hits,
-        lacks: *user.lacks(),
-    })
-}
-
 /// The user requirements in values of their own.
 fn raw_users(alloc: Global, req: &Req) -> Result<Vec<RawUser>, AllocError>
     ensures { IfOk result (λ raw. needs_of raw.items ≡ req.now) }
 {
     let users = req.users();
-    let mut raw = Vec::new(alloc);
+    let mut raw = Vec::with_capacity(alloc, users.len())?;
     for user in users {
-        raw.push(raw_user(alloc, user)?)?;
+        raw.push(raw_user(alloc, user.hits(), user.lacks())?)?;
     }
     Ok(raw)
 }
 
 /// One more hit for the user.
 fn and_one(user: &mut RawUser, hit: RoleSet) -> Result<(), AllocError>
-    ensures { OnOk result (need_of user.new ≡ and_hit hit (need_of user.old)) }
+    ensures { OnOk result (need_of user.new ≡ laws.add_hit hit (need_of user.old)) }
 {
     user.hits.insert(0, hit)?;
     Ok(())
@@ -187,7 +178,7 @@ fn and_one(user: &mut RawUser, hit: RoleSet) -> Result<(), AllocError>
 
 /// One more hit for the user at the place, if one is there.
 fn add_hit(raw: &mut Vec<RawUser>, at: u32, hit: RoleSet) -> Result<(), AllocError>
-    ensures { OnOk result (needs_of raw.new.items ≡ change_at at (and_hit hit) (needs_of raw.old.items)) }
+    ensures { OnOk result (needs_of raw.new.items ≡ change_at at (laws.add_hit hit) (needs_of raw.old.items)) }
 {
     if (at as usize) < raw.len() {
         and_one(&mut raw[at as usize], hit)?;
@@ -279,7 +270,7 @@ fn takers(policy: &Policy, rule: u32) -> Option<RoleSet>
 
 /// The conjunct at the place, of the rule of `can_assign` at its place.
 fn conjunct_at(prepared: &Prepared, rule: u32, conjunct: u32) -> Option<&Conjunct>
-    ensures { option_map (λ one. wanted_of one.now) result
+    ensures { option_map (λ one. need_of one.now) result
         ≡ and_then (slice_get prepared.now.assign rule) (λ rule. slice_get (conjuncts_of prepared.now rule) conjunct) }
 {
     match prepared.conjuncts_at(rule as usize) {
@@ -353,7 +344,7 @@ pub fn pre(
     prepared: &Prepared,
     req: &Req,
     ob: &Obligation,
-) -> Result<Option<Normal>, AllocError>
+) -> Result<Option<Normal>, NoMemory>
     ensures form { IfOk result (λ normal. form_in normal ≡ pre_form prepared.now req.now (owed_of ob.now)) }
     ensures places { IfOk result (λ normal. IfSome normal (ArePrePlaces prepared.now req.now (owed_of ob.now))) }
 {

@@ -4,54 +4,28 @@ ghost use Rattle.std.specs.Prelude.{◌≡◌, ◌≤◌, ◌++◌, [], ◌∷�
 ghost use Rattle.list_words.specs.Lists.{Each};
 ghost use Rattle.arbac_policy.specs.Truth.{term_of, IsKnown};
 ghost use Rattle.cond_text.specs.Grammar.{term_count};
-ghost use Rattle.arbac_laws.specs.Conjuncts.{conjuncts as conjuncts_law};
-ghost use Rattle.arbac_laws.specs.Goals.{before_each as before_each_law, goal_requirements};
+ghost use Rattle.arbac_laws.specs.Conjuncts as conjunct_laws;
+ghost use Rattle.arbac_laws.specs.Goals as goal_laws;
+ghost use Rattle.arbac_laws.specs.Goals.{goal_requirements};
 ghost use Rattle.arbac_laws.specs.NormalForms.{normal_form};
-ghost use Rattle.arbac_rules.specs.Views.{need_of as conjunct_of, needs_of as conjuncts_in};
 ghost use Rattle.req_core.specs.Answers.{form_in};
-ghost use Rattle.req_core.specs.Raw.{need_of, needs_of};
-ghost use Rattle.req_pre.specs.Combining.{too_many as too_many_law, raws_of, IsTooMany};
+ghost use Rattle.arbac_laws.specs.Views.{need_of, needs_of};
+ghost use Rattle.req_pre.specs.Combining.{IsTooMany};
+ghost use Rattle.req_pre.specs.Views.{lists_of};
 ghost use Rattle.req_pre.specs.Answers.{AreGoalPlaces};
 
 use crate::prepared::Prepared;
+use crate::raw::raw_user;
 use arbac_policy::Cond;
-use arbac_rules::{Conjunct, MOST_CONJUNCTS, WideError, conjuncts, width_of};
+use arbac_rules::{Conjunct, MOST_CONJUNCTS, WideError, conjuncts, too_many};
 use cond_text::MOST_TERMS;
 use req_core::{Normal, RawUser, normal};
-use role_order::{Order, RoleSet};
+use role_order::Order;
 use std::alloc::{AllocError, Global};
-
-/// How many combinations of one conjunct of each condition there are up to the first condition at which they are
-/// too many; none where they never are.
-fn too_many(goal: &[Cond]) -> Option<u128>
-    requires { Each (λ cond. term_count (term_of cond) ≤ MOST_TERMS) goal.now }
-    ensures { result ≡ too_many_law 1 (map term_of goal.now) }
-{
-    let mut combinations = 1;
-    for cond in goal {
-        combinations *= width_of(cond);
-        if combinations > MOST_CONJUNCTS as u128 {
-            return Some(combinations);
-        }
-    }
-    None
-}
-
-/// A user of whom so much is wanted.
-fn raw_user(alloc: Global, hits: &[RoleSet], lacks: &RoleSet) -> Result<RawUser, AllocError>
-    ensures { IfOk result (λ user. need_of user ≡ record { hits = hits.now; lacks = lacks.now }) }
-{
-    let mut copied = Vec::new(alloc);
-    copied.extend_from_slice(hits)?;
-    Ok(RawUser {
-        hits: copied,
-        lacks: *lacks,
-    })
-}
 
 /// A user who meets the conjunct, before the others.
 fn with_first(alloc: Global, first: &Conjunct, tail: &[RawUser]) -> Result<Vec<RawUser>, AllocError>
-    ensures { IfOk result (λ raw. needs_of raw.items ≡ conjunct_of first.now ∷ needs_of tail.now) }
+    ensures { IfOk result (λ raw. needs_of raw.items ≡ need_of first.now ∷ needs_of tail.now) }
 {
     let mut raw = Vec::new(alloc);
     raw.push(raw_user(alloc, &first.hits, &first.lacks)?)?;
@@ -68,8 +42,8 @@ fn add_before(
     first: &Conjunct,
     tails: &[Vec<RawUser>],
 ) -> Result<(), AllocError>
-    ensures { OnOk result (raws_of all.new.items
-        ≡ raws_of all.old.items ++ map (λ tail. conjunct_of first.now ∷ tail) (raws_of tails.now)) }
+    ensures { OnOk result (lists_of all.new.items
+        ≡ lists_of all.old.items ++ map (λ tail. need_of first.now ∷ tail) (lists_of tails.now)) }
 {
     for tail in tails {
         all.push(with_first(alloc, first, tail)?)?;
@@ -83,7 +57,7 @@ fn before_each(
     firsts: &[Conjunct],
     tails: &[Vec<RawUser>],
 ) -> Result<Vec<Vec<RawUser>>, AllocError>
-    ensures { IfOk result (λ all. raws_of all.items ≡ before_each_law (conjuncts_in firsts.now) (raws_of tails.now)) }
+    ensures { IfOk result (λ all. lists_of all.items ≡ goal_laws.before_each (needs_of firsts.now) (lists_of tails.now)) }
 {
     let mut all = Vec::new(alloc);
     for first in firsts {
@@ -96,7 +70,7 @@ fn before_each(
 fn few_conjuncts(alloc: Global, order: &Order, cond: &Cond) -> Result<Vec<Conjunct>, AllocError>
     requires terms { term_count (term_of cond.now) ≤ MOST_TERMS }
     requires known { IsKnown (length order.now.names) (term_of cond.now) }
-    ensures { IfOk result (λ list. conjuncts_in list.items ≡ conjuncts_law order.now (term_of cond.now)) }
+    ensures { IfOk result (λ list. needs_of list.items ≡ conjunct_laws.conjuncts order.now (term_of cond.now)) }
 {
     match conjuncts(alloc, order, cond) {
         Ok(list) => Ok(list),
@@ -106,7 +80,7 @@ fn few_conjuncts(alloc: Global, order: &Order, cond: &Cond) -> Result<Vec<Conjun
 
 /// A list of one requirement, on no user.
 fn no_users(alloc: Global) -> Result<Vec<Vec<RawUser>>, AllocError>
-    ensures { IfOk result (λ all. raws_of all.items ≡ [] ∷ []) }
+    ensures { IfOk result (λ all. lists_of all.items ≡ [] ∷ []) }
 {
     let mut all = Vec::new(alloc);
     all.push(Vec::new(alloc))?;
@@ -121,7 +95,7 @@ fn combinations(
 ) -> Result<Vec<Vec<RawUser>>, AllocError>
     requires terms { Each (λ cond. term_count (term_of cond) ≤ MOST_TERMS) goal.now }
     requires known { Each (λ cond. IsKnown (length order.now.names) (term_of cond)) goal.now }
-    ensures { IfOk result (λ all. raws_of all.items ≡ goal_requirements order.now (map term_of goal.now)) }
+    ensures { IfOk result (λ all. lists_of all.items ≡ goal_requirements order.now (map term_of goal.now)) }
 {
     let mut all = no_users(alloc)?;
     for at in (0..goal.len()).rev() {
@@ -133,8 +107,8 @@ fn combinations(
 
 /// The normal form of each requirement.
 fn forms(alloc: Global, raws: &[Vec<RawUser>]) -> Result<Vec<Option<Normal>>, AllocError>
-    ensures list { IfOk result (λ list. map form_in list.items ≡ map normal_form (raws_of raws.now)) }
-    ensures places { IfOk result (λ list. AreGoalPlaces (raws_of raws.now) list.items) }
+    ensures list { IfOk result (λ list. map form_in list.items ≡ map normal_form (lists_of raws.now)) }
+    ensures places { IfOk result (λ list. AreGoalPlaces (lists_of raws.now) list.items) }
 {
     let mut list = Vec::new(alloc);
     for raw in raws {

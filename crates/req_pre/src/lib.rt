@@ -7,6 +7,7 @@ mod goal_list;
 mod owed;
 mod owing;
 mod prepared;
+mod raw;
 #[cfg(test)]
 mod tests;
 

@@ -8,14 +8,17 @@ ghost use Rattle.role_order.specs.Refusals.{IsOrder};
 ghost use Rattle.arbac_policy.specs.Rules.{IsKnownRange};
 ghost use Rattle.arbac_policy.specs.declared.rule.CanAssign.{CanAssign};
 ghost use Rattle.arbac_policy.specs.declared.rule.CanRevoke.{CanRevoke};
-ghost use Rattle.arbac_laws.specs.Obligations.{obligations as all_of, flat, flat_places, is_in_range};
+ghost use Rattle.arbac_laws.specs.Obligations as laws;
+ghost use Rattle.arbac_laws.specs.Obligations.{flat, flat_places, is_in_range};
 ghost use Rattle.req_pre.specs.Preparing.{conjuncts_of};
 ghost use Rattle.req_pre.specs.Views.{owed_of, pick_of};
 ghost use Rattle.req_pre.specs.Owing.{act_by, is_of_use, by_other, by_picks, by_target, by_targets, by_role, by_roles, by_conjuncts, by_assign, by_revoke};
 
+use crate::NoMemory;
 use crate::owed::{Obligation, Pick};
 use crate::prepared::Prepared;
 use arbac_policy::Policy;
+use hall_match::small;
 use req_core::{Req, UserReq};
 use role_order::{Order, Range, RoleSet};
 use std::alloc::{AllocError, Global};
@@ -63,16 +66,6 @@ fn helps(origin: Origin, role: u16, user: &UserReq) -> bool
         Origin::Assign { .. } => some_has(user.hits(), role),
         Origin::Weak { .. } => user.lacks().has(role),
     }
-}
-
-/// The count as a number of 32 bits.
-fn small(count: usize) -> Result<u32, AllocError>
-    ensures { IfOk result (λ number. number ≡ count) }
-{
-    if count > u32::MAX as usize {
-        return Err(AllocError);
-    }
-    Ok(count as u32)
 }
 
 /// Adds the act that the user at the place administers, unless that is the target.
@@ -274,7 +267,7 @@ fn add_revoke(
 fn assign_count(policy: &Policy) -> u32
     ensures { result ≡ length policy.now.assign }
 {
-    let _few = policy.order();
+    policy.law();
     policy.assign().len() as u32
 }
 
@@ -282,7 +275,7 @@ fn assign_count(policy: &Policy) -> u32
 fn revoke_count(policy: &Policy) -> u32
     ensures { result ≡ length policy.now.revoke }
 {
-    let _few = policy.order();
+    policy.law();
     policy.revoke().len() as u32
 }
 
@@ -323,8 +316,8 @@ pub fn obligations(
     alloc: Global,
     prepared: &Prepared,
     req: &Req,
-) -> Result<Vec<Obligation>, AllocError>
-    ensures { IfOk result (λ list. map owed_of list.items ≡ all_of prepared.now req.now) }
+) -> Result<Vec<Obligation>, NoMemory>
+    ensures { IfOk result (λ list. map owed_of list.items ≡ laws.obligations prepared.now req.now) }
 {
     let mut list = Vec::new(alloc);
     add_assigns(&mut list, prepared, req.users())?;

@@ -4,8 +4,9 @@ ghost use Rattle.std.specs.Prelude.{◌≡◌, ◌≤◌, ◌<◌, ℕ, length, 
 ghost use Rattle.list_words.specs.Lists.{Each};
 ghost use Rattle.arbac_policy.specs.Rules.{IsPolicy};
 ghost use Rattle.arbac_policy.specs.declared.rule.CanAssign.{CanAssign};
-ghost use Rattle.arbac_rules.specs.Views.{needs_of};
-ghost use Rattle.req_pre.specs.Preparing.{conjuncts_of, lists_of, AreShort, IsWide, IsTooWide};
+ghost use Rattle.arbac_laws.specs.Views.{needs_of};
+ghost use Rattle.req_pre.specs.Preparing.{conjuncts_of, AreShort, IsWide, IsTooWide};
+ghost use Rattle.req_pre.specs.Views.{lists_of};
 
 use crate::answers::PrepareError;
 use arbac_policy::Policy;
@@ -25,7 +26,8 @@ impl Model for Prepared {
     ghost use Rattle.arbac_policy.specs.Rules.{Rules};
     ghost use Rattle.arbac_policy.specs.contracts.cond.Cond as e;
     ghost use Rattle.std.specs.Coded.{codes};
-    ghost use Rattle.req_pre.specs.Preparing.{conjuncts_of, lists_of};
+    ghost use Rattle.req_pre.specs.Preparing.{conjuncts_of};
+    ghost use Rattle.req_pre.specs.Views.{lists_of};
 
     ghost Value = { Rules };
 

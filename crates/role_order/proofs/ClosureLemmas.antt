@@ -1,19 +1,24 @@
 -- The table of the roles above each role, edge by edge.
-use Rattle.std.proofs.Common.{ℕ, ◌≡◌, ◌<◌, ◌≤◌, ◌+◌, List, [], ◌∷◌, ◌++◌, length, get_or, take, drop, arith, zero, suc, sym, ◌∙◌, ap, eqb, Bool, true, false, ◌||◌, ◌&&◌, not, cond, subst, refl, inl, inr, map, Some, append-nil}
+use Rattle.std.proofs.Common.{ℕ, ◌≡◌, ◌<◌, ◌≤◌, ◌+◌, List, [], ◌∷◌, ◌++◌, length, get_or, take, drop, arith, zero, suc, sym}
+use Rattle.std.proofs.Common.{◌∙◌, ap, eqb, Bool, true, false, ◌||◌, ◌&&◌, not, cond, subst, refl, inl, inr, map, Some, append-nil}
 use Rattle.std.specs.Prelude.{◌⊎◌, ◌↔◌, slice_get, slice_set}
 use Rattle.std.proofs.lemmas.Bool.{eqb-true, eq-eqb, false≢true}
 use Rattle.std.proofs.lemmas.Bool.Decides.{nat_tests}
 use Rattle.list_words.specs.Lists.{Each}
-use Rattle.role_order.specs.Roles.{has_role, with_role, join_roles, IsIn, Rises}
+use Rattle.role_order.specs.declared.range.Range.{Range}
+use Rattle.role_order.specs.Ranges.{IsInRange}
+use Rattle.role_order.specs.Kept.{IsKept}
+use Rattle.role_order.specs.Roles.{has_role, with_role, without_role, common_roles, join_roles, IsIn, Rises}
 use Rattle.role_order.specs.Graph.{Graph, Leads, here, AreEdges, AreAcyclic, turned}
 use Rattle.role_order.specs.Refusals.{IsOrder}
-use Rattle.role_order.specs.Closures.{AreAbove, raised, raised_set}
+use Rattle.role_order.specs.Closures.{AreAbove, HasAt, AreTurned, raised, raised_set}
 use Rattle.role_order.specs.Reach.{seniors_of, juniors_of}
-use Rattle.list_words.proofs.GetLemmas.{get_within, get_at, get_taken, take_all, get_last_cases, take_one_more}
-use Rattle.list_words.proofs.EachLemmas.{each_at}
-use Rattle.role_order.proofs.SetLemmas.{has_role-with_role, has_role-join_roles, rises-join_roles, same_set}
-use Rattle.list_words.proofs.TestLemmas.{or_cases, or_right, same_test}
-use Rattle.role_order.proofs.ReachLemmas.{Leads-join, leads_still, leads_split, leads_through, leads_from_none, leads_back, in_seniors, in_juniors, rises_seniors, rises_juniors, leads_to_below}
+use Rattle.list_words.proofs.GetLemmas.{same_some, get_within, get_below, get_at, length_more, get_taken, take_all, get_last_cases, take_one_more}
+use Rattle.list_words.proofs.EachLemmas.{each_at, each_append}
+use Rattle.role_order.proofs.SetLemmas.{has_role-with_role, has_role-filter, has_role-join_roles, rises-join_roles, same_set}
+use Rattle.list_words.proofs.TestLemmas.{or_cases, or_right, and_both, both_true, not_true, not_false, same_test}
+use Rattle.role_order.proofs.ReachLemmas.{Leads-join, leads_still, leads_split, leads_through, leads_from_none, leads_turned, leads_back, turned_twice}
+use Rattle.role_order.proofs.ReachLemmas.{in_seniors, in_juniors, rises_seniors, rises_juniors, leads_from_below, leads_to_below}
 
 -- a list that was mapped up to a place, with the item there mapped too
 pub mapped_step : {A : Type 0} (f : A → A) (xs ys : List A) (i : ℕ) (d : A) → i < length xs → ys ≡ map f (take i xs) ++ drop i xs
@@ -34,7 +39,8 @@ pub length_mapped : {A B : Type 0} (f : A → B) (xs : List A) → length (map f
 length_mapped f [] = refl
 length_mapped f (x ∷ xs) = ap suc (length_mapped f xs)
 
-pub get_mapped : {A B : Type 0} (f : A → B) (xs : List A) (k : ℕ) (y : B) → slice_get (map f xs) k ≡ Some y → (x : A) × (slice_get xs k ≡ Some x) × (y ≡ f x)
+pub get_mapped : {A B : Type 0} (f : A → B) (xs : List A) (k : ℕ) (y : B) → slice_get (map f xs) k ≡ Some y → (x : A) × (slice_get xs k ≡ Some x)
+    × (y ≡ f x)
 get_mapped f [] k y e = cc
 get_mapped f (x ∷ xs) zero y e = (x, refl, cc)
 get_mapped f (x ∷ xs) (suc k) y e = get_mapped f xs k y e
@@ -51,7 +57,8 @@ take_taken [] (suc m) (suc n) l = refl
 take_taken (x ∷ xs) (suc m) (suc n) l = ap (λ t. x ∷ t) (take_taken xs m n (omega arith))
 
 -- a whole slice of a list, written back into it
-pub written_back : {A : Type 0} (n : ℕ) (xs items : List A) → n ≡ length items → length xs ≡ length items → take n (xs ++ drop (length xs) items) ≡ xs
+pub written_back : {A : Type 0} (n : ℕ) (xs items : List A) → n ≡ length items → length xs ≡ length items
+    → take n (xs ++ drop (length xs) items) ≡ xs
 written_back {A = A} n xs items e l =
     let short : drop (length xs) items ≡ [] = dropped items (length xs) (omega arith) in
     rw (short, append-nil xs) (take_all xs n (omega arith))
@@ -78,7 +85,8 @@ one_alone above count table = record {
     rising [] h = ((tt, tt), tt)
     rising (x ∷ xs) h = (h.0, rising xs h.1)
 
-    by_place : (role : ℕ) (set : List ℕ) (senior : ℕ) → (slice_get above role ≡ Some set) ⊎ ((role ≡ length above) × ((count ∷ []) ≡ set)) → IsIn set senior ↔ Leads [] senior role
+    by_place : (role : ℕ) (set : List ℕ) (senior : ℕ) → (slice_get above role ≡ Some set) ⊎ ((role ≡ length above) × ((count ∷ []) ≡ set))
+        → IsIn set senior ↔ Leads [] senior role
     by_place role set senior (inl e) = table.each role set e senior
     by_place role set senior (inr e) =
         let at : role ≡ count = e.0 ∙ table.long in
@@ -95,7 +103,8 @@ one_alone above count table = record {
         same n = eq-eqb n n refl
 
 -- the table with one more edge
-pub raised_above : (count : ℕ) (edges : List (ℕ × ℕ)) (above : List (List ℕ)) (senior junior : ℕ) → AreAbove count edges above → senior < count → junior < count
+pub raised_above : (count : ℕ) (edges : List (ℕ × ℕ)) (above : List (List ℕ)) (senior junior : ℕ) → AreAbove count edges above → senior < count
+    → junior < count
     → AreAbove count (edges ++ (senior, junior) ∷ []) (raised above senior junior)
 raised_above count edges above senior junior table s j = record {
   long = length_mapped (raised_set seniors senior junior) above ∙ table.long;
@@ -115,11 +124,13 @@ raised_above count edges above senior junior table s j = record {
     rising : (xs : List (List ℕ)) → Each Rises xs → Each Rises (map (raised_set seniors senior junior) xs)
     rising [] h = tt
     rising (x ∷ xs) h = (
-      elim (has_role x junior && not (has_role x senior)) as (λ t. Rises (cond t (join_roles x seniors) x)) [ true ↦ rises-join_roles x seniors seniors_rise | false ↦ h.0 ],
+      elim (has_role x junior && not (has_role x senior)) as
+          (λ t. Rises (cond t (join_roles x seniors) x)) [ true ↦ rises-join_roles x seniors seniors_rise | false ↦ h.0 ],
       rising xs h.1,
     )
 
-    by_item : (role : ℕ) (set : List ℕ) (q : ℕ) → ((old : List ℕ) × (slice_get above role ≡ Some old) × (set ≡ raised_set seniors senior junior old))
+    by_item : (role : ℕ) (set : List ℕ) (q : ℕ)
+        → ((old : List ℕ) × (slice_get above role ≡ Some old) × (set ≡ raised_set seniors senior junior old))
         → IsIn set q ↔ Leads (edges ++ (senior, junior) ∷ []) q role
     by_item role set q (old, e, same) =
         subst (λ v. IsIn v q ↔ Leads (edges ++ (senior, junior) ∷ []) q role) (sym same) (by_tests (has_role old junior) refl (has_role old senior) refl)
@@ -158,8 +169,27 @@ raised_above count edges above senior junior table s j = record {
             from (inl l) = (old_are q).1 l
             from (inr l) = absurd (false≢true (sym t ∙ (old_are junior).1 l.1))
 
+-- the table is that with one more edge, along which the others lead already
+pub known_above : (count : ℕ) (edges : List (ℕ × ℕ)) (above : List (List ℕ)) (senior junior : ℕ) → AreAbove count edges above
+    → Leads edges senior junior
+    → AreAbove count (edges ++ (senior, junior) ∷ []) above
+known_above count edges above senior junior table known = record {
+  long = table.long;
+  rise = table.rise;
+  each = λ role set e q. (
+    λ h. leads_still ((table.each role set e q).0 h) (senior, junior),
+    λ led. from role set e q (leads_split edges senior junior led),
+  );
+}
+  where
+    from : (role : ℕ) (set : List ℕ) → slice_get above role ≡ Some set → (q : ℕ) → Leads edges q role
+        ⊎ (Leads edges q senior × Leads edges junior role) → IsIn set q
+    from role set e q (inl led) = (table.each role set e q).1 led
+    from role set e q (inr led) = (table.each role set e q).1 (Leads-join led.0 role (Leads-join known role led.1))
+
 -- no cycle up to a place, and none by the edge there
-pub acyclic_more : (edges : List (ℕ × ℕ)) (i : ℕ) (edge : ℕ × ℕ) → slice_get edges i ≡ Some edge → AreAcyclic (take i edges) → (Leads (take i edges) edge.1 edge.0 → ⊥)
+pub acyclic_more : (edges : List (ℕ × ℕ)) (i : ℕ) (edge : ℕ × ℕ) → slice_get edges i ≡ Some edge → AreAcyclic (take i edges)
+    → (Leads (take i edges) edge.1 edge.0 → ⊥)
     → AreAcyclic (take (i + 1) edges)
 acyclic_more edges i edge e before none place other at =
     by_place (get_last_cases (take i edges) edge other place (subst (λ t. slice_get t place ≡ Some other) (take_one_more edges i edge e) at))
@@ -173,26 +203,32 @@ acyclic_more edges i edge e before none place other at =
     same_front : place ≤ i → take place (take (i + 1) edges) ≡ take place edges
     same_front l = take_taken edges place (i + 1) (omega arith)
 
-    by_place : (slice_get (take i edges) place ≡ Some other) ⊎ ((place ≡ length (take i edges)) × (edge ≡ other)) → Leads (take place (take (i + 1) edges)) other.1 other.0 → ⊥
+    by_place : (slice_get (take i edges) place ≡ Some other) ⊎ ((place ≡ length (take i edges)) × (edge ≡ other))
+        → Leads (take place (take (i + 1) edges)) other.1 other.0 → ⊥
     by_place (inl h) l =
         let r = get_taken edges i place other h in
         before place other h (subst (λ t. Leads t other.1 other.0) (same_front (omega (arith, r.0)) ∙ sym (take_taken edges place i (omega (arith, r.0)))) l)
     by_place (inr h) l =
         let at_i : place ≡ i = h.0 ∙ long in
-        none (subst (λ (d : ℕ × ℕ). Leads (take i edges) d.1 d.0) (sym h.1) (subst (λ p. Leads (take p edges) other.1 other.0) at_i (subst (λ t. Leads t other.1 other.0) (same_front (omega arith)) l)))
+        none (subst (λ (d : ℕ × ℕ). Leads (take i edges) d.1 d.0) (sym h.1)
+        (subst (λ p. Leads (take p edges) other.1 other.0) at_i (subst (λ t. Leads t other.1 other.0) (same_front (omega arith)) l)))
 
 -- the seniors that the table has are those that are computed
-pub above_seniors : (order : Graph) (role : ℕ) (set : List ℕ) → AreEdges (length order.names) order.edges → Rises set → ((senior : ℕ) → IsIn set senior ↔ Leads order.edges senior role)
+pub above_seniors : (order : Graph) (role : ℕ) (set : List ℕ) → AreEdges (length order.names) order.edges → Rises set
+    → ((senior : ℕ) → IsIn set senior ↔ Leads order.edges senior role)
     → set ≡ seniors_of order role
 above_seniors order role set ends rises each =
     same_set set (seniors_of order role) rises (rises_seniors order role)
-    (λ q. same_test (has_role set q) (has_role (seniors_of order role) q) (λ h. (in_seniors order role ends q).1 ((each q).0 h)) (λ h. (each q).1 ((in_seniors order role ends q).0 h)))
+    (λ q. same_test (has_role set q) (has_role (seniors_of order role) q) (λ h. (in_seniors order role ends q).1 ((each q).0 h))
+    (λ h. (each q).1 ((in_seniors order role ends q).0 h)))
 
-pub below_juniors : (order : Graph) (role : ℕ) (set : List ℕ) → AreEdges (length order.names) order.edges → Rises set → ((junior : ℕ) → IsIn set junior ↔ Leads order.edges role junior)
+pub below_juniors : (order : Graph) (role : ℕ) (set : List ℕ) → AreEdges (length order.names) order.edges → Rises set
+    → ((junior : ℕ) → IsIn set junior ↔ Leads order.edges role junior)
     → set ≡ juniors_of order role
 below_juniors order role set ends rises each =
     same_set set (juniors_of order role) rises (rises_juniors order role)
-    (λ q. same_test (has_role set q) (has_role (juniors_of order role) q) (λ h. (in_juniors order role ends q).1 ((each q).0 h)) (λ h. (each q).1 ((in_juniors order role ends q).0 h)))
+    (λ q. same_test (has_role set q) (has_role (juniors_of order role) q) (λ h. (in_juniors order role ends q).1 ((each q).0 h))
+    (λ h. (each q).1 ((in_juniors order role ends q).0 h)))
 
 -- what the turned order owes
 pub turned_ends : (count : ℕ) (edges : List (ℕ × ℕ)) → AreEdges count edges → AreEdges count (map turned edges)
@@ -212,37 +248,91 @@ turned_acyclic edges h place edge at l =
     let back' : Leads (map turned (take place edges)) old.0.0 old.0.1 = subst (λ (e : ℕ × ℕ). Leads (map turned (take place edges)) e.1 e.0) same back in
     h place old.0 old.1 (leads_back (take place edges) old.0.0 old.0.1 back')
 
--- the juniors below a number, with the next number where it is one
-pub junior_more : (edges : List (ℕ × ℕ)) (role at : ℕ) (set : List ℕ) → ((junior : ℕ) → IsIn set junior ↔ ((junior < at) × Leads edges role junior))
-    → Leads edges role at → (junior : ℕ) → IsIn (with_role set at) junior ↔ ((junior < at + 1) × Leads edges role junior)
-junior_more edges role at set each led junior = (
-  λ h. to (or_cases (eqb at junior) (has_role set junior) (sym (has_role-with_role set at junior) ∙ h)),
-  λ h. has_role-with_role set at junior ∙ from (eqb at junior) refl h,
+-- ---- the roles below a number that a fact holds of
+
+-- with the next number, of which it holds
+pub one_more : (P : ℕ → Type 0) (at : ℕ) (set : List ℕ) → ((q : ℕ) → IsIn set q ↔ ((q < at) × P q)) → P at → (q : ℕ)
+    → IsIn (with_role set at) q ↔ ((q < at + 1) × P q)
+one_more P at set each holds q = (
+  λ h. to (or_cases (eqb at q) (has_role set q) (sym (has_role-with_role set at q) ∙ h)),
+  λ h. has_role-with_role set at q ∙ from (eqb at q) refl h,
 )
   where
-    to : (eqb at junior ≡ true) ⊎ (has_role set junior ≡ true) → (junior < at + 1) × Leads edges role junior
-    to (inl e) = let same : at ≡ junior = eqb-true at junior e in (omega arith, subst (Leads edges role) same led)
-    to (inr h) = let r = (each junior).0 h in (omega (arith, r.0), r.1)
+    to : (eqb at q ≡ true) ⊎ (has_role set q ≡ true) → (q < at + 1) × P q
+    to (inl e) = let same : at ≡ q = eqb-true at q e in (omega arith, subst P same holds)
+    to (inr h) = let r = (each q).0 h in (omega (arith, r.0), r.1)
 
-    from : (t : Bool) → eqb at junior ≡ t → (junior < at + 1) × Leads edges role junior → (eqb at junior || has_role set junior) ≡ true
+    from : (t : Bool) → eqb at q ≡ t → (q < at + 1) × P q → (eqb at q || has_role set q) ≡ true
     from true e h = rw e refl
-    from false e h = let less : junior < at = grind (arith, nat_tests) in or_right (eqb at junior) (has_role set junior) ((each junior).1 (less, h.1))
+    from false e h = let less : q < at = grind (arith, nat_tests) in or_right (eqb at q) (has_role set q) ((each q).1 (less, h.1))
 
-pub junior_not : (edges : List (ℕ × ℕ)) (role at : ℕ) (set : List ℕ) → ((junior : ℕ) → IsIn set junior ↔ ((junior < at) × Leads edges role junior))
-    → (Leads edges role at → ⊥) → (junior : ℕ) → IsIn set junior ↔ ((junior < at + 1) × Leads edges role junior)
-junior_not edges role at set each apart junior = (λ h. let r = (each junior).0 h in (omega (arith, r.0), r.1), λ h. from (eqb at junior) refl h)
+-- with the next number, of which it doesn't hold
+pub no_more : (P : ℕ → Type 0) (at : ℕ) (set : List ℕ) → ((q : ℕ) → IsIn set q ↔ ((q < at) × P q)) → (P at → ⊥) → (q : ℕ)
+    → IsIn set q ↔ ((q < at + 1) × P q)
+no_more P at set each apart q = (λ h. let r = (each q).0 h in (omega (arith, r.0), r.1), λ h. from (eqb at q) refl h)
   where
-    from : (t : Bool) → eqb at junior ≡ t → (junior < at + 1) × Leads edges role junior → has_role set junior ≡ true
-    from true e h = let same : at ≡ junior = eqb-true at junior e in absurd (apart (subst (Leads edges role) (sym same) h.1))
-    from false e h = let less : junior < at = grind (arith, nat_tests) in (each junior).1 (less, h.1)
+    from : (t : Bool) → eqb at q ≡ t → (q < at + 1) × P q → has_role set q ≡ true
+    from true e h = let same : at ≡ q = eqb-true at q e in absurd (apart (subst P (sym same) h.1))
+    from false e h = let less : q < at = grind (arith, nat_tests) in (each q).1 (less, h.1)
 
-pub all_juniors : (count : ℕ) (edges : List (ℕ × ℕ)) (role at : ℕ) (set : List ℕ) → AreEdges count edges → role < count → count ≤ at
-    → ((junior : ℕ) → IsIn set junior ↔ ((junior < at) × Leads edges role junior)) → (junior : ℕ) → IsIn set junior ↔ Leads edges role junior
-all_juniors count edges role at set ends l m each junior = (λ h. ((each junior).0 h).1, λ led. from led (leads_to_below led count ends))
+-- where it holds of lesser numbers alone
+pub all_of_them : (P : ℕ → Type 0) (at : ℕ) (set : List ℕ) → ((q : ℕ) → P q → q < at) → ((q : ℕ) → IsIn set q ↔ ((q < at) × P q)) → (q : ℕ)
+    → IsIn set q ↔ P q
+all_of_them P at set below each q = (λ h. ((each q).0 h).1, λ h. (each q).1 (below q h, h))
+
+-- ---- the table of the roles below each role
+
+-- a set that stands at a place has the role where the place has
+pub has_at_place : (sets : List (List ℕ)) (place role : ℕ) (set : List ℕ) → slice_get sets place ≡ Some set → HasAt sets place role
+    → IsIn set role
+has_at_place sets place role set at has = let same : has.set ≡ set = same_some has.set set (sym has.at ∙ at) in subst (λ s. IsIn s role) same has.there
+
+-- the sets of one role more
+pub turned_more : (sets : List (List ℕ)) (count : ℕ) (turned : List (List ℕ)) (set : List ℕ) → AreTurned sets count turned → Rises set
+    → ((place : ℕ) → IsIn set place ↔ HasAt sets place count) → AreTurned sets (count + 1) (turned ++ set ∷ [])
+turned_more sets count turned set all rises each = record {
+  long = length_more turned set ∙ ap (λ n. n + 1) all.long;
+  rise = each_append Rises turned (set ∷ []) all.rise (rises, tt);
+  each = λ role other e place. by_place role other place (get_last_cases turned set other role e);
+}
   where
-    from : Leads edges role junior → (role ≡ junior) ⊎ (junior < count) → IsIn set junior
-    from led (inl e) = (each junior).1 (omega arith, led)
-    from led (inr k) = (each junior).1 (omega arith, led)
+    by_place : (role : ℕ) (other : List ℕ) (place : ℕ) → (slice_get turned role ≡ Some other) ⊎ ((role ≡ length turned) × (set ≡ other))
+        → IsIn other place ↔ HasAt sets place role
+    by_place role other place (inl e) = all.each role other e place
+    by_place role other place (inr e) =
+        let at : role ≡ count = e.0 ∙ all.long in
+        subst (λ s. IsIn s place ↔ HasAt sets place role) e.1 (subst (λ r. IsIn set place ↔ HasAt sets place r) (sym at) (each place))
+
+-- what is above each role in the turned order is what is below it
+pub turned_table : (count : ℕ) (edges : List (ℕ × ℕ)) (above below : List (List ℕ)) → AreEdges count edges → AreAbove count edges above
+    → AreTurned above count below
+    → AreAbove count (map turned edges) below
+turned_table count edges above below ends table turns = record {
+  long = turns.long;
+  rise = turns.rise;
+  each = λ role set e place. (
+    λ h. let has = (turns.each role set e place).0 h in leads_turned ((table.each place has.set has.at role).0 has.there),
+    λ led. (turns.each role set e place).1 (has role set e place (leads_back edges place role led)),
+  );
+}
+  where
+    has : (role : ℕ) (set : List ℕ) → slice_get below role ≡ Some set → (place : ℕ) → Leads edges role place → HasAt above place role
+    has role set e place led = from (leads_to_below led count ends)
+      where
+        from : (role ≡ place) ⊎ (place < count) → HasAt above place role
+        from away =
+            let within : place < length above = omega (arith, table.long, turns.long, get_below below role set e, below_count away) in
+            let there = get_at above place [] within in
+            record { set = get_or above place []; at = there; there = (table.each place (get_or above place []) there role).1 led }
+          where
+            below_count : (role ≡ place) ⊎ (place < count) → place < count
+            below_count (inl s) = omega (arith, s, turns.long, get_below below role set e)
+            below_count (inr l) = l
+
+-- the table of an order is that of the order turned twice
+pub table_turned_twice : (count : ℕ) (edges : List (ℕ × ℕ)) (above : List (List ℕ)) → AreAbove count edges above
+    → AreAbove count (map turned (map turned edges)) above
+table_turned_twice count edges above table = subst (λ e. AreAbove count e above) (sym (turned_twice edges)) table
 
 -- the turned order is an order
 pub turned_order : (names : List (List ℕ)) (edges : List (ℕ × ℕ)) → IsOrder names edges → IsOrder names (map turned edges)
@@ -251,3 +341,74 @@ turned_order names edges order = record {
   ends = turned_ends (length names) edges order.ends;
   acyclic = turned_acyclic edges order.acyclic;
 }
+
+-- what the turned order keeps
+pub kept_turned : (names : List (List ℕ)) (edges : List (ℕ × ℕ)) (above below : List (List ℕ)) (by_name : List ℕ)
+    → IsKept names edges above below by_name
+    → IsKept names (map turned edges) below above by_name
+kept_turned names edges above below by_name kept = record {
+  order = turned_order names edges kept.order;
+  seniors = kept.juniors;
+  juniors = table_turned_twice (length names) edges above kept.seniors;
+  table = kept.table;
+}
+
+-- what is above a role in the turned order is what is below it
+pub below_role : (edges : List (ℕ × ℕ)) (count role : ℕ) (below : List (List ℕ)) (set : List ℕ) → AreAbove count (map turned edges) below
+    → slice_get below role ≡ Some set
+    → (junior : ℕ) → IsIn set junior ↔ Leads edges role junior
+below_role edges count role below set table at junior = (
+  λ h. leads_back edges junior role ((table.each role set at junior).0 h),
+  λ led. (table.each role set at junior).1 (leads_turned led),
+)
+
+-- ---- the roles of a range
+
+-- those between the ends, without each open end
+pub in_range_of : (order : Graph) (range : Range) (above below between from_low roles : List ℕ) → AreEdges (length order.names) order.edges
+    → range.low < length order.names
+    → ((q : ℕ) → IsIn above q ↔ Leads order.edges q range.low) → ((q : ℕ) → IsIn below q ↔ Leads order.edges range.high q)
+    → between ≡ common_roles above below
+    → ((q : ℕ) → IsIn from_low q ↔ (IsIn between q × (range.low_open ≡ true → ¬ (q ≡ range.low))))
+    → ((q : ℕ) → IsIn roles q ↔ (IsIn from_low q × (range.high_open ≡ true → ¬ (q ≡ range.high))))
+    → (q : ℕ) → IsIn roles q ↔ IsInRange order range q
+in_range_of order range above below between from_low roles ends low up down is_common low_cut high_cut q = (
+  λ h.
+      let high_part = (high_cut q).0 h in
+      let low_part = (low_cut q).0 high_part.0 in
+      let both = and_both (has_role above q) (has_role below q) (sym (in_common q) ∙ low_part.0) in
+      record {
+        is_role = below_count (leads_from_below ((up q).0 both.0) (length order.names) ends);
+        above_low = (up q).0 both.0;
+        below_high = (down q).0 both.1;
+        low = low_part.1;
+        high = high_part.1;
+      },
+  λ within.
+      (high_cut q).1 (
+        (low_cut q).1 (
+          in_common q ∙ both_true (has_role above q) (has_role below q) ((up q).1 within.above_low)
+              ((down q).1 within.below_high),
+          within.low,
+        ),
+        within.high,
+      ),
+)
+  where
+    in_common : (q : ℕ) → has_role between q ≡ (has_role above q && has_role below q)
+    in_common q = rw is_common (has_role-filter (has_role below) above q)
+
+    below_count : (q ≡ range.low) ⊎ (q < length order.names) → q < length order.names
+    below_count (inl e) = omega (arith, e, low)
+    below_count (inr l) = l
+
+-- a role is in the set but for an open end
+pub cut_open : (set : List ℕ) (end role : ℕ) → IsIn (without_role set end) role ↔ (IsIn set role × (true ≡ true → ¬ (role ≡ end)))
+cut_open set end role = (
+  λ h.
+      let both = and_both (has_role set role) (not (eqb role end)) (sym (has_role-filter (λ x. not (eqb x end)) set role) ∙ h) in
+      (both.0, λ is_open e. not_true (eqb role end) both.1 (eq-eqb role end e)),
+  λ h.
+      let other : eqb role end ≡ false = not_false (eqb role end) (λ e. h.1 refl (eqb-true role end e)) in
+      has_role-filter (λ x. not (eqb x end)) set role ∙ both_true (has_role set role) (not (eqb role end)) h.0 (rw other refl),
+)

@@ -1,6 +1,7 @@
 pub mod SetLemmas
 pub mod ReachLemmas
 pub mod ClosureLemmas
-pub mod PlacesLemmas
 pub mod NameLemmas
 pub mod OrderLemmas
+pub mod MaskLemmas
+pub mod FirstLemmas

@@ -1,5 +1,6 @@
 -- What leads where, with one more edge, by the computed seniors, and in the turned order.
-use Rattle.std.proofs.Common.{ℕ, ◌≡◌, ◌<◌, List, [], ◌∷◌, ◌++◌, length, get_or, arith, zero, suc, sym, ◌∙◌, ap, eqb, Bool, true, false, ◌||◌, ◌&&◌, subst, refl, inl, inr, map}
+use Rattle.std.proofs.Common.{ℕ, ◌≡◌, ◌<◌, List, [], ◌∷◌, ◌++◌, length, get_or, arith, zero, suc, sym, ◌∙◌, ap, eqb, Bool, true}
+use Rattle.std.proofs.Common.{false, ◌||◌, ◌&&◌, subst, refl, inl, inr, map}
 use Rattle.std.specs.Prelude.{◌⊎◌, ◌↔◌, filter, Contains}
 use Rattle.std.proofs.lemmas.Bool.{eqb-true, eq-eqb}
 use Rattle.std.proofs.lemmas.Bool.Decides.{nat_tests}
@@ -49,9 +50,11 @@ leads_still {edges} (down {x} {y} d l) edge = down (contains_front edges (edge �
 pub leads_split : (edges : List (ℕ × ℕ)) (senior junior : ℕ) {x y : ℕ} → Leads (edges ++ (senior, junior) ∷ []) x y
     → Leads edges x y ⊎ (Leads edges x senior × Leads edges junior y)
 leads_split edges senior junior here = inl here
-leads_split edges senior junior (down {x = x} {y = z} {z = y} d l) = by_edge (contains_split edges (senior, junior) (x, z) d) (leads_split edges senior junior l)
+leads_split edges senior junior (down {x = x} {y = z} {z = y} d l) = by_edge (contains_split edges (senior, junior) (x, z) d)
+    (leads_split edges senior junior l)
   where
-    by_edge : Contains edges (x, z) ⊎ (◌≡◌ {A = ℕ × ℕ} (senior, junior) (x, z)) → Leads edges z y ⊎ (Leads edges z senior × Leads edges junior y)
+    by_edge : Contains edges (x, z) ⊎ (◌≡◌ {A = ℕ × ℕ} (senior, junior) (x, z)) → Leads edges z y
+        ⊎ (Leads edges z senior × Leads edges junior y)
         → Leads edges x y ⊎ (Leads edges x senior × Leads edges junior y)
     by_edge (inl d) (inl l) = inl (down d l)
     by_edge (inl d) (inr l) = inr (down d l.0, l.1)
@@ -64,7 +67,8 @@ leads_split edges senior junior (down {x = x} {y = z} {z = y} d l) = by_edge (co
         from_junior e (inl l) = subst (λ v. Leads edges v y) (sym e) l
         from_junior e (inr l) = l.1
 
-pub leads_through : (edges : List (ℕ × ℕ)) (senior junior x y : ℕ) → Leads edges x senior → Leads edges junior y → Leads (edges ++ (senior, junior) ∷ []) x y
+pub leads_through : (edges : List (ℕ × ℕ)) (senior junior x y : ℕ) → Leads edges x senior → Leads edges junior y
+    → Leads (edges ++ (senior, junior) ∷ []) x y
 leads_through edges senior junior x y l r =
     Leads-join (leads_still l (senior, junior)) y (down (contains_last edges (senior, junior)) (leads_still r (senior, junior)))
 
@@ -76,7 +80,8 @@ pub edge_is : (edges : List (ℕ × ℕ)) (x y : ℕ) → is_edge edges x y ≡ 
 edge_is [] x y e = cc
 edge_is (edge ∷ edges) x y e = by_case (or_cases (eqb edge.0 x && eqb edge.1 y) (is_edge edges x y) e) (edge_is edges x y)
   where
-    by_case : ((eqb edge.0 x && eqb edge.1 y) ≡ true) ⊎ (is_edge edges x y ≡ true) → (is_edge edges x y ≡ true → Contains edges (x, y)) → Contains (edge ∷ edges) (x, y)
+    by_case : ((eqb edge.0 x && eqb edge.1 y) ≡ true) ⊎ (is_edge edges x y ≡ true) → (is_edge edges x y ≡ true → Contains edges (x, y))
+        → Contains (edge ∷ edges) (x, y)
     by_case (inl h) rest =
         let b = and_both (eqb edge.0 x) (eqb edge.1 y) h in
         let first : edge.0 ≡ x = eqb-true edge.0 x b.0 in
@@ -103,9 +108,11 @@ leads_by_leads edges zero x y h = by_case (or_cases (eqb x y) (is_edge edges x y
     by_case (inl e) = subst (Leads edges x) (eqb-true x y e) here
     by_case (inr e) = down (edge_is edges x y e) here
 leads_by_leads edges (suc k) x y h =
-    by_case (or_cases (leads_by edges k x y) (leads_by edges k x k && leads_by edges k k y) h) (leads_by_leads edges k x y) (leads_by_leads edges k x k) (leads_by_leads edges k k y)
+    by_case (or_cases (leads_by edges k x y) (leads_by edges k x k && leads_by edges k k y) h) (leads_by_leads edges k x y)
+    (leads_by_leads edges k x k) (leads_by_leads edges k k y)
   where
-    by_case : (leads_by edges k x y ≡ true) ⊎ ((leads_by edges k x k && leads_by edges k k y) ≡ true) → (leads_by edges k x y ≡ true → Leads edges x y)
+    by_case : (leads_by edges k x y ≡ true) ⊎ ((leads_by edges k x k && leads_by edges k k y) ≡ true)
+        → (leads_by edges k x y ≡ true → Leads edges x y)
         → (leads_by edges k x k ≡ true → Leads edges x k) → (leads_by edges k k y ≡ true → Leads edges k y) → Leads edges x y
     by_case (inl e) f g h = f e
     by_case (inr e) f g h = let b = and_both (leads_by edges k x k) (leads_by edges k k y) e in Leads-join (g b.0) y (h b.1)
@@ -115,10 +122,12 @@ leads_by_more edges zero x y h = h
 leads_by_more edges (suc k) x y h = rw (leads_by_more edges k x y h) refl
 
 -- two ways join at a role below the number
-pub leads_by_join : (edges : List (ℕ × ℕ)) (k x y z : ℕ) → y < k → leads_by edges k x y ≡ true → leads_by edges k y z ≡ true → leads_by edges k x z ≡ true
+pub leads_by_join : (edges : List (ℕ × ℕ)) (k x y z : ℕ) → y < k → leads_by edges k x y ≡ true → leads_by edges k y z ≡ true
+    → leads_by edges k x z ≡ true
 leads_by_join edges zero x y z l h g = absurd (omega arith)
 leads_by_join edges (suc k) x y z l h g =
-    by_case (eqb y k) refl (or_cases (leads_by edges k x y) (leads_by edges k x k && leads_by edges k k y) h) (or_cases (leads_by edges k y z) (leads_by edges k y k && leads_by edges k k z) g)
+    by_case (eqb y k) refl (or_cases (leads_by edges k x y) (leads_by edges k x k && leads_by edges k k y) h)
+    (or_cases (leads_by edges k y z) (leads_by edges k y k && leads_by edges k k z) g)
     (λ x z l. leads_by_join edges k x y z l)
   where
     below : eqb y k ≡ false → y < k
@@ -129,20 +138,25 @@ leads_by_join edges (suc k) x y z l h g =
 
     by_case : (t : Bool) → eqb y k ≡ t → (leads_by edges k x y ≡ true) ⊎ ((leads_by edges k x k && leads_by edges k k y) ≡ true)
         → (leads_by edges k y z ≡ true) ⊎ ((leads_by edges k y k && leads_by edges k k z) ≡ true)
-        → ((x z : ℕ) → y < k → leads_by edges k x y ≡ true → leads_by edges k y z ≡ true → leads_by edges k x z ≡ true) → leads_by edges (suc k) x z ≡ true
+        → ((x z : ℕ) → y < k → leads_by edges k x y ≡ true → leads_by edges k y z ≡ true → leads_by edges k x z ≡ true)
+        → leads_by edges (suc k) x z ≡ true
     by_case true t (inl a) (inl b) join =
         let e : y ≡ k = eqb-true y k t in through (subst (λ v. leads_by edges k x v ≡ true) e a) (subst (λ v. leads_by edges k v z ≡ true) e b)
     by_case true t (inl a) (inr b) join =
-        let e : y ≡ k = eqb-true y k t in through (subst (λ v. leads_by edges k x v ≡ true) e a) (and_both (leads_by edges k y k) (leads_by edges k k z) b).1
+        let e : y ≡ k = eqb-true y k t in through (subst (λ v. leads_by edges k x v ≡ true) e a)
+        (and_both (leads_by edges k y k) (leads_by edges k k z) b).1
     by_case true t (inr a) (inl b) join =
-        let e : y ≡ k = eqb-true y k t in through (and_both (leads_by edges k x k) (leads_by edges k k y) a).0 (subst (λ v. leads_by edges k v z ≡ true) e b)
-    by_case true t (inr a) (inr b) join = through (and_both (leads_by edges k x k) (leads_by edges k k y) a).0 (and_both (leads_by edges k y k) (leads_by edges k k z) b).1
+        let e : y ≡ k = eqb-true y k t in through (and_both (leads_by edges k x k) (leads_by edges k k y) a).0
+        (subst (λ v. leads_by edges k v z ≡ true) e b)
+    by_case true t (inr a) (inr b) join =
+        through (and_both (leads_by edges k x k) (leads_by edges k k y) a).0 (and_both (leads_by edges k y k) (leads_by edges k k z) b).1
     by_case false t (inl a) (inl b) join = rw (join x z (below t) a b) refl
     by_case false t (inl a) (inr b) join =
         let c = and_both (leads_by edges k y k) (leads_by edges k k z) b in through (join x k (below t) a c.0) c.1
     by_case false t (inr a) (inl b) join =
         let c = and_both (leads_by edges k x k) (leads_by edges k k y) a in through c.0 (join k z (below t) c.1 b)
-    by_case false t (inr a) (inr b) join = through (and_both (leads_by edges k x k) (leads_by edges k k y) a).0 (and_both (leads_by edges k y k) (leads_by edges k k z) b).1
+    by_case false t (inr a) (inr b) join =
+        through (and_both (leads_by edges k x k) (leads_by edges k k y) a).0 (and_both (leads_by edges k y k) (leads_by edges k k z) b).1
 
 pub edge_below : (n : ℕ) (edges : List (ℕ × ℕ)) (x y : ℕ) → AreEdges n edges → Contains edges (x, y) → (x < n) × (y < n)
 edge_below n edges x y all h = let a = at_contains edges (x, y) h in each_at (IsEdge n) edges a.0 (x, y) all a.1
@@ -150,7 +164,8 @@ edge_below n edges x y all h = let a = at_contains edges (x, y) h in each_at (Is
 pub leads_leads_by : {edges : List (ℕ × ℕ)} {x y : ℕ} → Leads edges x y → (n : ℕ) → AreEdges n edges → leads_by edges n x y ≡ true
 leads_leads_by {edges} (here {x}) n all = leads_by_more edges n x x (rw (eq-eqb x x refl) refl)
 leads_leads_by {edges} (down {x} {y} {z} d l) n all =
-    leads_by_join edges n x y z (edge_below n edges x y all d).1 (leads_by_more edges n x y (or_right (eqb x y) (is_edge edges x y) (is_edge_of edges x y d))) (leads_leads_by l n all)
+    leads_by_join edges n x y z (edge_below n edges x y all d).1
+    (leads_by_more edges n x y (or_right (eqb x y) (is_edge edges x y) (is_edge_of edges x y d))) (leads_leads_by l n all)
 
 -- a way begins at its end or at an edge
 pub leads_from_below : {edges : List (ℕ × ℕ)} {x y : ℕ} → Leads edges x y → (n : ℕ) → AreEdges n edges → (x ≡ y) ⊎ (x < n)
@@ -167,7 +182,8 @@ leads_to_below {edges} (down {x = x} {y = z} {z = y} d l) n all = by_rest (leads
     by_rest (inr l) = inr l
 
 -- what leads to a role or away from it, computed and as the edges have it
-pub in_led : (test : ℕ → Bool) (n role : ℕ) (P : ℕ → Type 0) → ((q : ℕ) → test q ≡ true → P q) → ((q : ℕ) → P q → (q < n) ⊎ (role ≡ q)) → ((q : ℕ) → P q → test q ≡ true) → P role
+pub in_led : (test : ℕ → Bool) (n role : ℕ) (P : ℕ → Type 0) → ((q : ℕ) → test q ≡ true → P q) → ((q : ℕ) → P q → (q < n) ⊎ (role ≡ q))
+    → ((q : ℕ) → P q → test q ≡ true) → P role
     → (q : ℕ) → IsIn (with_role (filter test (count_up 0 n)) role) q ↔ P q
 in_led test n role P sound below complete self q = (
   λ h. to (or_cases (eqb role q) (has_role (filter test (count_up 0 n)) q) (sym (has_role-with_role (filter test (count_up 0 n)) role q) ∙ h)),
@@ -181,21 +197,28 @@ in_led test n role P sound below complete self q = (
     from : P q → (q < n) ⊎ (role ≡ q) → (eqb role q || has_role (filter test (count_up 0 n)) q) ≡ true
     from p (inr e) = rw (eq-eqb role q e) refl
     from p (inl l) = or_right (eqb role q) (has_role (filter test (count_up 0 n)) q)
-        (has_role-filter test (count_up 0 n) q ∙ both_true (has_role (count_up 0 n) q) (test q) (has_role-count_up 0 n q (omega arith) (omega arith)) (complete q p))
+        (has_role-filter test (count_up 0 n) q
+        ∙ both_true (has_role (count_up 0 n) q) (test q) (has_role-count_up 0 n q (omega arith) (omega arith)) (complete q p))
 
-pub in_seniors : (order : Graph) (role : ℕ) → AreEdges (length order.names) order.edges → (senior : ℕ) → IsIn (seniors_of order role) senior ↔ Leads order.edges senior role
+pub in_seniors : (order : Graph) (role : ℕ) → AreEdges (length order.names) order.edges → (senior : ℕ)
+    → IsIn (seniors_of order role) senior ↔ Leads order.edges senior role
 unfolding seniors_of
-in_seniors order role all = in_led (λ senior. leads_by order.edges (length order.names) senior role) (length order.names) role (λ senior. Leads order.edges senior role)
-    (λ q h. leads_by_leads order.edges (length order.names) q role h) (λ q l. below q (leads_from_below l (length order.names) all)) (λ q l. leads_leads_by l (length order.names) all) here
+in_seniors order role all =
+    in_led (λ senior. leads_by order.edges (length order.names) senior role) (length order.names) role (λ senior. Leads order.edges senior role)
+    (λ q h. leads_by_leads order.edges (length order.names) q role h) (λ q l. below q (leads_from_below l (length order.names) all))
+    (λ q l. leads_leads_by l (length order.names) all) here
   where
     below : (q : ℕ) → (q ≡ role) ⊎ (q < length order.names) → (q < length order.names) ⊎ (role ≡ q)
     below q (inl e) = inr (sym e)
     below q (inr l) = inl l
 
-pub in_juniors : (order : Graph) (role : ℕ) → AreEdges (length order.names) order.edges → (junior : ℕ) → IsIn (juniors_of order role) junior ↔ Leads order.edges role junior
+pub in_juniors : (order : Graph) (role : ℕ) → AreEdges (length order.names) order.edges → (junior : ℕ)
+    → IsIn (juniors_of order role) junior ↔ Leads order.edges role junior
 unfolding juniors_of
-in_juniors order role all = in_led (λ junior. leads_by order.edges (length order.names) role junior) (length order.names) role (λ junior. Leads order.edges role junior)
-    (λ q h. leads_by_leads order.edges (length order.names) role q h) (λ q l. below q (leads_to_below l (length order.names) all)) (λ q l. leads_leads_by l (length order.names) all) here
+in_juniors order role all =
+    in_led (λ junior. leads_by order.edges (length order.names) role junior) (length order.names) role (λ junior. Leads order.edges role junior)
+    (λ q h. leads_by_leads order.edges (length order.names) role q h) (λ q l. below q (leads_to_below l (length order.names) all))
+    (λ q l. leads_leads_by l (length order.names) all) here
   where
     below : (q : ℕ) → (role ≡ q) ⊎ (q < length order.names) → (q < length order.names) ⊎ (role ≡ q)
     below q (inl e) = inr e

@@ -1,5 +1,6 @@
 -- What is in a set after a change, and sets that have the same roles.
-use Rattle.std.proofs.Common.{ℕ, ◌≡◌, ◌+◌, ◌<◌, ◌≤◌, Bool, true, false, ◌||◌, ◌&&◌, cond, eqb, ltb, List, [], ◌∷◌, refl, arith, zero, suc, ap, sym, ◌∙◌, subst}
+use Rattle.std.proofs.Common.{ℕ, ◌≡◌, ◌+◌, ◌<◌, ◌≤◌, Bool, true, false, ◌||◌, ◌&&◌, cond, eqb, ltb, List, [], ◌∷◌, refl}
+use Rattle.std.proofs.Common.{arith, zero, suc, ap, sym, ◌∙◌, subst}
 use Rattle.std.specs.Prelude.{◌==◌, filter}
 use Rattle.std.proofs.lemmas.Bool.{ne_eqb, eq-eqb, eqb-true, false≢true}
 use Rattle.std.proofs.lemmas.Bool.Decides.{nat_tests}
@@ -12,7 +13,8 @@ pub has_role-with_role : (xs : List ℕ) (r q : ℕ) → has_role (with_role xs 
 has_role-with_role [] r q = refl
 has_role-with_role (x ∷ xs) r q = by_order (ltb r x) (eqb x r) refl refl (has_role-with_role xs r q)
   where
-    by_order : (below same : Bool) → ltb r x ≡ below → eqb x r ≡ same → has_role (with_role xs r) q ≡ ((r == q) || has_role xs q) → has_role (with_role (x ∷ xs) r) q ≡ ((r == q) || has_role (x ∷ xs) q)
+    by_order : (below same : Bool) → ltb r x ≡ below → eqb x r ≡ same → has_role (with_role xs r) q ≡ ((r == q) || has_role xs q)
+        → has_role (with_role (x ∷ xs) r) q ≡ ((r == q) || has_role (x ∷ xs) q)
     by_order true same b s rest = rw b
     by_order false true b s rest = let e : x ≡ r = eqb-true x r s in rw (b, s, e) (twice (eqb r q) (has_role xs q))
       where
@@ -43,7 +45,8 @@ has_role-filter p (x ∷ xs) q = by_test (p x) refl (eqb x q) refl (has_role-fil
         → has_role (cond t (x ∷ filter p xs) (filter p xs)) q ≡ ((eqb x q || has_role xs q) && p q)
     by_test true h true e rest = let same : x ≡ q = eqb-true x q e in let passes : p q ≡ true = rw same at h in rw (e, passes) refl
     by_test true h false e rest = rw e rest
-    by_test false h true e rest = let same : x ≡ q = eqb-true x q e in let fails : p q ≡ false = rw same at h in rw (e, fails) (rest ∙ rw fails (ended (has_role xs q)))
+    by_test false h true e rest =
+        let same : x ≡ q = eqb-true x q e in let fails : p q ≡ false = rw same at h in rw (e, fails) (rest ∙ rw fails (ended (has_role xs q)))
       where
         ended : (b : Bool) → (b && false) ≡ false
         ended true = refl
@@ -58,7 +61,10 @@ each-filter P p (x ∷ xs) h =
 pub rises-filter : (p : ℕ → Bool) (xs : List ℕ) → Rises xs → Rises (filter p xs)
 rises-filter p [] h = tt
 rises-filter p (x ∷ xs) h =
-    elim (p x) as (λ t. Rises (cond t (x ∷ filter p xs) (filter p xs))) [ true ↦ (each-filter (λ y. x < y) p xs h.0, rises-filter p xs h.1) | false ↦ rises-filter p xs h.1 ]
+    elim (p x) as (λ t. Rises (cond t (x ∷ filter p xs) (filter p xs))) [
+      | true ↦ (each-filter (λ y. x < y) p xs h.0, rises-filter p xs h.1)
+      | false ↦ rises-filter p xs h.1
+    ]
 
 pub each-with_role : (P : ℕ → Type 0) (xs : List ℕ) (r : ℕ) → Each P xs → P r → Each P (with_role xs r)
 each-with_role P [] r h p = (p, tt)
@@ -73,7 +79,8 @@ pub rises-with_role : (xs : List ℕ) (r : ℕ) → Rises xs → Rises (with_rol
 rises-with_role [] r h = (tt, tt)
 rises-with_role (x ∷ xs) r h = by_order (ltb r x) refl (eqb x r) refl (rises-with_role xs r h.1)
   where
-    by_order : (s : Bool) → ltb r x ≡ s → (t : Bool) → eqb x r ≡ t → Rises (with_role xs r) → Rises (cond s (r ∷ x ∷ xs) (cond t (x ∷ xs) (x ∷ with_role xs r)))
+    by_order : (s : Bool) → ltb r x ≡ s → (t : Bool) → eqb x r ≡ t → Rises (with_role xs r)
+        → Rises (cond s (r ∷ x ∷ xs) (cond t (x ∷ xs) (x ∷ with_role xs r)))
     by_order true b t e rest =
         let below : r < x = grind (arith, nat_tests) in
         ((below, each_weaker (λ y. x < y) (λ y. r < y) (λ y l. omega arith) xs h.0), h)
@@ -92,14 +99,18 @@ count_up_from low at (suc n) h = (h, count_up_from low (at + 1) n (omega arith))
 
 pub rises-count_up : (at n : ℕ) → Rises (count_up at n)
 rises-count_up at zero = tt
-rises-count_up at (suc n) = (each_weaker (λ y. at + 1 ≤ y) (λ y. at < y) (λ y l. omega arith) (count_up (at + 1) n) (count_up_from (at + 1) (at + 1) n (omega arith)), rises-count_up (at + 1) n)
+rises-count_up at (suc n) = (
+  each_weaker (λ y. at + 1 ≤ y) (λ y. at < y) (λ y l. omega arith) (count_up (at + 1) n) (count_up_from (at + 1) (at + 1) n (omega arith)),
+  rises-count_up (at + 1) n,
+)
 
 -- the numbers counted up are those from the first on, so many of them
 pub has_role-count_up : (at n q : ℕ) → at ≤ q → q < at + n → has_role (count_up at n) q ≡ true
 has_role-count_up at zero q l m = absurd (omega arith)
 has_role-count_up at (suc n) q l m = by_place (eqb at q) refl (λ k. has_role-count_up (at + 1) n q (omega (arith, k)) (omega arith))
   where
-    by_place : (t : Bool) → eqb at q ≡ t → (at < q → has_role (count_up (at + 1) n) q ≡ true) → (eqb at q || has_role (count_up (at + 1) n) q) ≡ true
+    by_place : (t : Bool) → eqb at q ≡ t → (at < q → has_role (count_up (at + 1) n) q ≡ true)
+        → (eqb at q || has_role (count_up (at + 1) n) q) ≡ true
     by_place true e rest = rw e refl
     by_place false e rest = let other : at < q = grind (arith, nat_tests) in rw e (rest other)
 
@@ -119,7 +130,8 @@ same_set [] (y ∷ ys) rx ry h = absurd (false≢true (h y ∙ rw (eq-eqb y y re
 same_set (x ∷ xs) [] rx ry h = absurd (false≢true (sym (h x) ∙ rw (eq-eqb x x refl) refl))
 same_set (x ∷ xs) (y ∷ ys) rx ry h = by_order (ltb x y) refl (ltb y x) refl (same_set xs ys rx.1 ry.1)
   where
-    by_order : (s : Bool) → ltb x y ≡ s → (t : Bool) → ltb y x ≡ t → (((q : ℕ) → has_role xs q ≡ has_role ys q) → xs ≡ ys) → x ∷ xs ≡ y ∷ ys
+    by_order : (s : Bool) → ltb x y ≡ s → (t : Bool) → ltb y x ≡ t → (((q : ℕ) → has_role xs q ≡ has_role ys q) → xs ≡ ys)
+        → x ∷ xs ≡ y ∷ ys
     by_order true b t d rest =
         let below : x < y = grind (arith, nat_tests) in
         absurd (false≢true (sym (has_role-below x y ys below ry.0) ∙ sym (h x) ∙ rw (eq-eqb x x refl) refl))
@@ -134,7 +146,8 @@ same_set (x ∷ xs) (y ∷ ys) rx ry h = by_order (ltb x y) refl (ltb y x) refl 
         tail q true e =
             let at : x ≡ q = eqb-true x q e in
             let same : x ≡ y = grind (arith, nat_tests) in
-            subst (λ v. has_role xs v ≡ has_role ys v) at (has_role-above x xs rx.0 ∙ sym (subst (λ v. has_role ys v ≡ false) (sym same) (has_role-above y ys ry.0)))
+            subst (λ v. has_role xs v ≡ has_role ys v) at
+            (has_role-above x xs rx.0 ∙ sym (subst (λ v. has_role ys v ≡ false) (sym same) (has_role-above y ys ry.0)))
         tail q false e =
             let same : x ≡ y = grind (arith, nat_tests) in
             let e' : eqb y q ≡ false = subst (λ v. eqb v q ≡ false) same e in

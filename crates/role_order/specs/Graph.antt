@@ -16,6 +16,7 @@ pub data Leads (edges : List (ℕ × ℕ)) : ℕ → ℕ → Type 0 where
 abbrev pub IsEdge : ℕ → ℕ × ℕ → Type 0
 IsEdge count edge = (edge.0 < count) × (edge.1 < count)
 
+-- both ends of each edge are below the count
 abbrev pub AreEdges : ℕ → List (ℕ × ℕ) → Type 0
 AreEdges count edges = Each (IsEdge count) edges
 

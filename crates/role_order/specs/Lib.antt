@@ -1,9 +1,11 @@
 pub mod Roles
 pub mod Orders
-pub mod Places
+pub mod Masks
+pub mod MasksBack
 pub mod Names
 pub mod Graph
 pub mod Reach
 pub mod Closures
 pub mod Ranges
 pub mod Refusals
+pub mod Kept

@@ -1,6 +1,10 @@
 -- Names, and the names of roles.
-use Rattle.std.specs.Prelude.{ℕ, Bool, not, ◌==◌, ◌||◌, ◌&&◌, nat_le, List, [], ◌∷◌, length, codes, Option, String, position}
+use Rattle.std.specs.Prelude.{ℕ, ◌<◌, Bool, not, ◌==◌, ◌||◌, ◌&&◌, nat_le, List, [], ◌∷◌, length, get_or, codes, Option, String}
+use Rattle.std.specs.Prelude.{position, All, Contains}
 use Rattle.std.specs.List.{list_all}
+use Rattle.std.specs.List.Sorted.{IsSortedBy}
+use Rattle.std.specs.Ordering.{is_lt, nat_cmp}
+use Rattle.std.specs.Cmp.Lexicographic.{slice_cmp}
 use Rattle.std.specs.Str.{bytes_eq}
 use Rattle.std.specs.String.{string_bytes}
 use Rattle.std.specs.declared.alloc.Global.{Global}
@@ -30,3 +34,13 @@ is_role_name text = is_name text && not (is_reserved text)
 -- the place of the first name that equals the text
 abbrev pub place_of : List (List ℕ) → List ℕ → Option ℕ
 place_of names text = position (λ name. bytes_eq name text) names
+
+-- the name of a number, and no bytes where it has none
+abbrev pub name_at : List (List ℕ) → ℕ → List ℕ
+name_at names role = get_or names role []
+
+-- the numbers of the names, each of them, sorted by name
+pub record IsNameTable (names : List (List ℕ)) (table : List ℕ) : Type 0 where
+  pub within : All (λ role. role < length names) table
+  pub complete : (role : ℕ) → role < length names → Contains table role
+  pub sorted : IsSortedBy (λ a b. is_lt (slice_cmp nat_cmp (name_at names a) (name_at names b))) table

@@ -8,6 +8,7 @@ abbrev pub count_up : ℕ → ℕ → List ℕ
 count_up at zero = []
 count_up at (suc n) = at ∷ count_up (at + 1) n
 
+-- the pair is one of the edges
 abbrev pub is_edge : List (ℕ × ℕ) → ℕ → ℕ → Bool
 is_edge [] x y = false
 is_edge (edge ∷ edges) x y = ((edge.0 == x) && (edge.1 == y)) || is_edge edges x y

@@ -7,14 +7,15 @@ use Rattle.list_words.specs.Lists.{Each, IsFirst, AreDifferent}
 use Rattle.role_order.specs.Names.{is_role_name, place_of}
 use Rattle.role_order.specs.Graph.{IsEdge, AreEdges, AreAcyclic, IsCycle}
 
--- 1 to 250 roles
+-- 1 to MOST_ROLES roles
 abbrev pub AreCounted : List (List ℕ) → Type 0
 AreCounted names = (1 ≤ length names) × (length names ≤ MOST_ROLES)
 
+-- each is a role name
 abbrev pub AreRoleNames : List (List ℕ) → Type 0
 AreRoleNames names = Each (λ name. is_role_name name ≡ true) names
 
--- 1 to 250 role names, all different
+-- 1 to MOST_ROLES role names, all different
 pub record AreNames (names : List (List ℕ)) : Type 0 where
   pub counted : AreCounted names
   pub named : AreRoleNames names

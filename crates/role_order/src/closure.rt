@@ -1,12 +1,13 @@
 //! Which role is above which, made once from the edges.
 
-ghost use Rattle.std.specs.Prelude.{◌≡◌, ◌<◌, ◌≤◌, length, [], IfOk, IfSome, IfNone, Some};
+ghost use Rattle.std.specs.Prelude.{ℕ, ◌≡◌, ◌<◌, ◌≤◌, ◌↔◌, length, [], IfOk, IfSome, IfNone, Some};
 ghost use Rattle.role_order.specs.Graph.{AreEdges, IsEdge, IsCycle, AreAcyclic};
 ghost use Rattle.list_words.specs.Lists.{IsFirst};
-ghost use Rattle.role_order.specs.Closures.{AreAbove, IfTable, IfCycle, raised, raised_set};
+ghost use Rattle.role_order.specs.Closures.{AreAbove, HasAt, AreTurned, IfTable, IfCycle, raised, raised_set};
+ghost use Rattle.role_order.specs.Roles.{IsIn, Rises};
 
-use crate::MOST_ROLES;
 use crate::role_set::RoleSet;
+use crate::{MOST_ROLES, NoMemory};
 use std::alloc::{AllocError, Global};
 
 /// What comes of taking up edges one after another.
@@ -65,7 +66,7 @@ fn add_edge(above: &mut Vec<RoleSet>, senior: u16, junior: u16)
 }
 
 /// The sets of the roles above each role by these edges, or the first edge that closes a cycle.
-pub fn close(alloc: Global, count: u16, edges: &[(u16, u16)]) -> Result<Closure, AllocError>
+pub fn close(alloc: Global, count: u16, edges: &[(u16, u16)]) -> Result<Closure, NoMemory>
     requires count { count ≤ MOST_ROLES }
     requires ends { AreEdges count edges.now }
     ensures table { IfOk result (λ closure. IfTable closure (λ above. AreAbove count edges.now above × AreAcyclic edges.now)) }
@@ -76,7 +77,37 @@ pub fn close(alloc: Global, count: u16, edges: &[(u16, u16)]) -> Result<Closure,
         if above[senior as usize].has(junior) {
             return Ok(Closure::Cycle(place));
         }
-        add_edge(&mut above, senior, junior);
+        // An edge that the others lead along too adds nothing.
+        if !above[junior as usize].has(senior) {
+            add_edge(&mut above, senior, junior);
+        }
     }
     Ok(Closure::Table(above))
+}
+
+/// The roles whose sets have the senior.
+fn juniors_in(above: &[RoleSet], senior: u16) -> RoleSet
+    requires { length above.now ≤ MOST_ROLES }
+    ensures rises { Rises result }
+    ensures each { (junior : ℕ) → IsIn result junior ↔ HasAt above.now junior senior }
+{
+    let mut juniors = RoleSet::empty();
+    for (junior, set) in above.iter().enumerate() {
+        if set.has(senior) {
+            juniors = juniors.with(junior as u16);
+        }
+    }
+    juniors
+}
+
+/// The sets of the roles below each role, of those of the roles above each.
+pub fn turn_sets(alloc: Global, above: &[RoleSet]) -> Result<Vec<RoleSet>, NoMemory>
+    requires { length above.now ≤ MOST_ROLES }
+    ensures { IfOk result (λ below. AreTurned above.now (length above.now) below.items) }
+{
+    let mut below = Vec::new(alloc);
+    for senior in 0..above.len() as u16 {
+        below.push(juniors_in(above, senior))?;
+    }
+    Ok(below)
 }

@@ -4,7 +4,8 @@ ghost use Rattle.std.specs.Prelude.{◌≡◌, ◌<◌, length, position, IfSome
 ghost use Rattle.std.specs.List.{list_all};
 ghost use Rattle.std.specs.Str.{bytes_eq};
 ghost use Rattle.std.specs.String.{string_bytes};
-ghost use Rattle.role_order.specs.Names.{texts, is_name as name, is_name_byte as is_byte, is_reserved as reserved, is_role_name as role_name, place_of};
+ghost use Rattle.role_order.specs.Names as words;
+ghost use Rattle.role_order.specs.Names.{texts, place_of};
 ghost use Rattle.list_words.specs.Lists.{AreDifferent, IsFirst};
 ghost use Rattle.role_order.specs.Refusals.{AreRoleNames, IsRepeated};
 
@@ -12,13 +13,13 @@ use crate::MOST_NAME_BYTES;
 
 /// Whether the byte is one of `A-Z a-z 0-9 _ . -`.
 pub fn is_name_byte(b: u8) -> bool
-    ensures { result ≡ is_byte b }
+    ensures { result ≡ words.is_name_byte b }
 {
     matches!(b, b'A'..=b'Z' | b'a'..=b'z' | b'0'..=b'9' | b'_' | b'.' | b'-')
 }
 
 fn are_name_bytes(bytes: &[u8]) -> bool
-    ensures { result ≡ list_all is_byte bytes.now }
+    ensures { result ≡ list_all words.is_name_byte bytes.now }
 {
     bytes.iter().all(|b| is_name_byte(*b))
 }
@@ -26,7 +27,7 @@ fn are_name_bytes(bytes: &[u8]) -> bool
 /// Whether the text is 1 to `MOST_NAME_BYTES` name bytes.
 #[tactic(auto, unfolding(crate::specs::Names::is_name))]
 pub fn is_name(text: &str) -> bool
-    ensures { result ≡ name text.now }
+    ensures { result ≡ words.is_name text.now }
 {
     let bytes = text.as_bytes();
     1 <= bytes.len() && bytes.len() <= MOST_NAME_BYTES && are_name_bytes(bytes)
@@ -34,7 +35,7 @@ pub fn is_name(text: &str) -> bool
 
 #[tactic(auto, unfolding(crate::specs::Names::is_reserved))]
 fn is_reserved(text: &str) -> bool
-    ensures { result ≡ reserved text.now }
+    ensures { result ≡ words.is_reserved text.now }
 {
     text == "any" || text == "not" || text == "and" || text == "or"
 }
@@ -42,7 +43,7 @@ fn is_reserved(text: &str) -> bool
 /// Whether the text is a name and none of the conditions' own words.
 #[tactic(auto, unfolding(crate::specs::Names::is_role_name))]
 fn is_role_name(text: &str) -> bool
-    ensures { result ≡ role_name text.now }
+    ensures { result ≡ words.is_role_name text.now }
 {
     is_name(text) && !is_reserved(text)
 }
@@ -64,7 +65,7 @@ pub fn place_in(names: &[String], bytes: &[u8]) -> Option<usize>
 /// The place of the first text that is no role name.
 pub fn first_bad(names: &[String]) -> Option<usize>
     ensures within { IfSome result (λ at. at < length names.now) }
-    ensures found { IfSome result (IsFirst (λ name. role_name name ≡ false) (texts names.now)) }
+    ensures found { IfSome result (IsFirst (λ name. words.is_role_name name ≡ false) (texts names.now)) }
     ensures none { IfNone result (AreRoleNames (texts names.now)) }
 {
     for (at, name) in names.iter().enumerate() {

@@ -1,18 +1,21 @@
 //! Role orders.
 
-ghost use Rattle.std.specs.Prelude.{ℕ, ◌≡◌, ◌^◌, ◌<◌, ◌≤◌, List, ◌↔◌, IsTrue, length, vec_len, IfOk, IfErr, IfSome, Some, None, slice_get, map};
+ghost use Rattle.std.specs.Prelude.{ℕ, true, ◌≡◌, ◌^◌, ◌<◌, ◌≤◌, List, ◌↔◌, IsTrue, length, vec_len, IfOk, IfErr, IfSome, Some};
+ghost use Rattle.std.specs.Prelude.{None, slice_get, map};
 ghost use Rattle.role_order.specs.Names.{texts, place_of};
 ghost use Rattle.role_order.specs.Graph.{Leads, turned};
 ghost use Rattle.role_order.specs.Refusals.{AreNames, IsOrder, IsRefused};
 ghost use Rattle.role_order.specs.Reach.{seniors_of, juniors_of};
 ghost use Rattle.role_order.specs.Ranges.{IsInRange};
-ghost use Rattle.role_order.specs.Roles.{IsIn, Rises};
+ghost use Rattle.role_order.specs.Closures.{AreAbove};
+ghost use Rattle.role_order.specs.Roles.{IsIn, Rises, IsRoleSet};
 
-use crate::closure::{Closure, close, first_outside};
-use crate::names::{first_bad, first_repeated, place_in};
+use crate::closure::{Closure, close, first_outside, turn_sets};
+use crate::name_table::{number_of, sorted_by_name};
+use crate::names::{first_bad, first_repeated};
 use crate::range::Range;
 use crate::role_set::RoleSet;
-use crate::{MOST_NAME_BYTES, MOST_ROLES};
+use crate::{MOST_NAME_BYTES, MOST_ROLES, NoMemory};
 use std::alloc::{AllocError, Global};
 use std::marker::Model;
 
@@ -51,22 +54,24 @@ impl From<AllocError> for OrderError {
 pub struct Order {
     names: Vec<String>,
     edges: Vec<(u16, u16)>,
+    /// For each role those above it, or it.
     above: Vec<RoleSet>,
+    /// For each role those below it, or it.
+    below: Vec<RoleSet>,
+    /// The roles, sorted by name.
+    by_name: Vec<u16>,
 }
 
 impl Model for Order {
     ghost use Rattle.role_order.specs.Graph.{Graph};
     ghost use Rattle.role_order.specs.Names.{texts};
-    ghost use Rattle.role_order.specs.Refusals.{IsOrder};
-    ghost use Rattle.role_order.specs.Closures.{AreAbove};
-    ghost use Rattle.std.specs.Prelude.{length};
+    ghost use Rattle.role_order.specs.Kept.{IsKept};
 
     ghost Value = { Graph };
 
     ghost view = { λ o. record { names = texts o.names.items; edges = o.edges.items } };
 
-    ghost invariant = { λ o. IsOrder (texts o.names.items) o.edges.items
-        × AreAbove (length (texts o.names.items)) o.edges.items o.above.items };
+    ghost invariant = { λ o. IsKept (texts o.names.items) o.edges.items o.above.items o.below.items o.by_name.items };
 }
 
 #[tactic(auto, using(crate::proofs::NameLemmas::length_texts))]
@@ -128,20 +133,34 @@ fn turn(alloc: Global, edges: &[(u16, u16)]) -> Result<Vec<(u16, u16)>, AllocErr
     Ok(back)
 }
 
-/// The order of names and edges that are known to be one.
-fn made_of(alloc: Global, names: Vec<String>, edges: Vec<(u16, u16)>) -> Result<Order, AllocError>
-    requires { IsOrder (texts names.items) edges.items }
+/// The order of names and edges that are known to be one, with the roles above each.
+fn order_with(
+    alloc: Global,
+    names: Vec<String>,
+    edges: Vec<(u16, u16)>,
+    above: Vec<RoleSet>,
+) -> Result<Order, AllocError>
+    requires order { IsOrder (texts names.items) edges.items }
+    requires above { AreAbove (length (texts names.items)) edges.items above.items }
     ensures names { IfOk result (λ o. o.names ≡ texts names.items) }
     ensures edges { IfOk result (λ o. o.edges ≡ edges.items) }
 {
-    match close(alloc, count_of(&names), &edges)? {
-        Closure::Table(above) => Ok(Order {
-            names,
-            edges,
-            above,
-        }),
-        Closure::Cycle(_) => unreachable!(),
-    }
+    let below = turn_sets(alloc, &above)?;
+    let by_name = sorted_by_name(alloc, &names)?;
+    Ok(Order {
+        names,
+        edges,
+        above,
+        below,
+        by_name,
+    })
+}
+
+/// The set, without the end where it is open.
+fn without_open(set: &RoleSet, end: u16, is_open: bool) -> RoleSet
+    ensures { (role : ℕ) → IsIn result role ↔ (IsIn set.now role × (is_open ≡ true → ¬ (role ≡ end))) }
+{
+    if is_open { set.without(end) } else { *set }
 }
 
 impl Order {
@@ -168,11 +187,7 @@ impl Order {
             });
         }
         match close(alloc, count_of(&names), &edges)? {
-            Closure::Table(above) => Ok(Order {
-                names,
-                edges,
-                above,
-            }),
+            Closure::Table(above) => Ok(order_with(alloc, names, edges, above)?),
             Closure::Cycle(place) => Err(OrderError::Cycle {
                 place: place as u32,
             }),
@@ -215,10 +230,15 @@ impl Order {
         ensures role { IfSome result (λ role. role < length self.now.names) }
         ensures place { result ≡ place_of self.now.names bytes.now }
     {
-        match place_in(&self.names, bytes) {
-            Some(at) => Some(at as u16),
-            None => None,
-        }
+        number_of(&self.names, &self.by_name, bytes)
+    }
+
+    /// Says that the names and edges are an order: 1 to `MOST_ROLES` role names, all different, and
+    /// edges between them that close no circle.
+    pub fn is_order(&self)
+        ensures { IsOrder self.now.names self.now.edges }
+    {
+        let _ = &self.names;
     }
 
     /// The role and all roles above it, as they are kept.
@@ -229,6 +249,16 @@ impl Order {
         ensures each { (senior : ℕ) → IsIn result.now senior ↔ Leads self.now.edges senior role }
     {
         &self.above[role as usize]
+    }
+
+    /// The role and all roles below it, as they are kept.
+    fn below(&self, role: u16) -> &RoleSet
+        requires { role < length self.now.names }
+        ensures order { IsOrder self.now.names self.now.edges }
+        ensures rises { Rises result.now }
+        ensures each { (junior : ℕ) → IsIn result.now junior ↔ Leads self.now.edges role junior }
+    {
+        &self.below[role as usize]
     }
 
     /// Whether `x` is `y` or stands above it.
@@ -255,13 +285,7 @@ impl Order {
         ensures juniors { result ≡ juniors_of self.now role }
         ensures each { (junior : ℕ) → IsIn result junior ↔ Leads self.now.edges role junior }
     {
-        let mut juniors = RoleSet::empty();
-        for junior in 0..self.count() {
-            if self.geq(role, junior) {
-                juniors = juniors.with(junior);
-            }
-        }
-        juniors
+        *self.below(role)
     }
 
     /// Whether the role stands between the range's ends and is no end that is open.
@@ -277,15 +301,32 @@ impl Order {
             && !(range.high_open && role == range.high)
     }
 
+    /// The roles between the range's ends, without an end that is open.
+    pub fn roles_of(&self, range: &Range) -> RoleSet
+        requires low { range.now.low < length self.now.names }
+        requires high { range.now.high < length self.now.names }
+        ensures roles { (role : ℕ) → IsIn result role ↔ IsInRange self.now range.now role }
+        ensures set { IsRoleSet result }
+    {
+        let between = self.above(range.low).common(self.below(range.high));
+        let from_low = without_open(&between, range.low, range.low_open);
+        let roles = without_open(&from_low, range.high, range.high_open);
+        roles.is_role_set();
+        roles
+    }
+
     /// The dual order: the same names, and each edge turned round.
-    pub fn reversed(&self, alloc: Global) -> Result<Order, AllocError>
+    pub fn reversed(&self, alloc: Global) -> Result<Order, NoMemory>
         ensures names { IfOk result (λ o. o.names ≡ self.now.names) }
         ensures edges { IfOk result (λ o. o.edges ≡ map turned self.now.edges) }
         ensures geq { IfOk result (λ o. (x y : ℕ) → Leads o.edges x y ↔ Leads self.now.edges y x) }
     {
-        let names = copy_names(alloc, &self.names)?;
-        let edges = turn(alloc, &self.edges)?;
-        let order = made_of(alloc, names, edges)?;
-        Ok(order)
+        Ok(Order {
+            names: copy_names(alloc, &self.names)?,
+            edges: turn(alloc, &self.edges)?,
+            above: Vec::from_slice(alloc, &self.below)?,
+            below: Vec::from_slice(alloc, &self.above)?,
+            by_name: Vec::from_slice(alloc, &self.by_name)?,
+        })
     }
 }

@@ -1,6 +1,8 @@
 //! Role orders and role sets, call by call.
 use crate::{Order, OrderError, Range, RoleSet, is_name, is_name_byte};
 use std::alloc::{AllocError, Global};
+use std::fmt::Write;
+use std::mem::size_of;
 use std::process::Abort;
 use std::test::Fail;
 
@@ -191,6 +193,9 @@ fn the_most_roles_are_250_in_one_chain(rt: HostRuntime) -> Result<(), Fail> {
                 assert!(rt; middle.has(99) && !middle.has(100), "of {count}");
                 assert_eq!(rt; order.role_named("z"), Some(count - 1));
                 assert_eq!(rt; order.role_named("r0"), None);
+                for role in 0..count {
+                    assert_eq!(rt; order.role_named(order.name(role)), Some(role));
+                }
             }
             Err(error) => assert_eq!(rt; Some(error), want, "of {count}"),
         }
@@ -223,6 +228,7 @@ fn a_range_of_the_department_has_its_roles(rt: HostRuntime) -> Result<(), Fail> 
             low_open: *low_open,
             high_open: *high_open,
         };
+        let roles = order.roles_of(&range);
         for role in 0..order.count() {
             let name = order.name(role);
             let want = texts.iter().any(|text| *text == name);
@@ -231,6 +237,7 @@ fn a_range_of_the_department_has_its_roles(rt: HostRuntime) -> Result<(), Fail> 
                 want,
                 "{name} of {low} {high}"
             );
+            assert_eq!(rt; roles.has(role), want, "{name} of {low} {high}");
         }
     }
     Ok(())
@@ -245,6 +252,8 @@ fn a_reversed_order_turns_each_edge(rt: HostRuntime) -> Result<(), Fail> {
     assert!(rt; back.geq(1, 0) && !back.geq(0, 1));
     assert_eq!(rt; back.edges(), [(1, 0)].as_slice());
     assert_eq!(rt; back.name(1), "b");
+    assert_eq!(rt; back.role_named("b"), Some(1));
+    assert!(rt; back.seniors(0) == back.juniors(1) && back.juniors(0).len() == 1);
     Ok(())
 }
 
@@ -283,6 +292,119 @@ fn a_set_has_the_roles_that_it_was_given(rt: HostRuntime) {
         assert_eq!(rt; ends.less(&low).has(role), less, "at {role}");
     }
     assert!(rt; ends.meets(&low) && !ends.within(&low) && !low.within(&ends));
+}
+
+/// The first and the last role of each mask.
+const ENDS: [u16; 4] = [0, 127, 128, 249];
+
+/// The sets of these roles, each by its places among them, as bits, in the order of rising lists.
+const IN_ORDER: [u8; 16] = [0, 1, 3, 7, 15, 11, 5, 13, 9, 2, 6, 14, 10, 4, 12, 8];
+
+/// A set by its places among the ends, a number, and the set's least role that isn't below it.
+const NEXT: [(u8, u16, Option<u16>); 15] = [
+    (15, 0, Some(0)),
+    (15, 1, Some(127)),
+    (15, 127, Some(127)),
+    (15, 128, Some(128)),
+    (15, 129, Some(249)),
+    (15, 249, Some(249)),
+    (15, 250, None),
+    (15, 65_535, None),
+    (8, 0, Some(249)),
+    (12, 5, Some(128)),
+    (3, 128, None),
+    (2, 127, Some(127)),
+    (2, 128, None),
+    (1, 1, None),
+    (0, 0, None),
+];
+
+/// A set by its places among the ends, and its roles.
+const ROLES: [(u8, &str); 6] = [
+    (15, " 0 127 128 249"),
+    (10, " 127 249"),
+    (6, " 127 128"),
+    (8, " 249"),
+    (1, " 0"),
+    (0, ""),
+];
+
+fn set_of(rt: &impl Abort, places: u8) -> RoleSet {
+    let mut set = RoleSet::empty();
+    for (place, role) in ENDS.iter().enumerate() {
+        assert!(rt; place < 4 && *role < 250);
+        if places >> place & 1 == 1 {
+            set = set.with(*role);
+        }
+    }
+    set
+}
+
+#[test]
+fn a_set_takes_32_bytes(rt: HostRuntime) {
+    assert_eq!(rt; size_of::<RoleSet>(), 32);
+}
+
+#[test]
+fn sets_of_both_masks_are_worked_on_as_wholes(rt: HostRuntime) {
+    for (at, places) in IN_ORDER.iter().enumerate() {
+        let set = set_of(&rt, *places);
+        assert_eq!(rt; set.len() as u32, places.count_ones(), "{places}");
+        assert_eq!(rt; set.is_empty(), *places == 0, "{places}");
+        for (behind, others) in IN_ORDER.iter().enumerate() {
+            let other = set_of(&rt, *others);
+            let join = set.join(&other) == set_of(&rt, *places | *others);
+            let common = set.common(&other) == set_of(&rt, *places & *others);
+            let less = set.less(&other) == set_of(&rt, *places & !*others);
+            assert!(rt; join && common && less, "{places} and {others}");
+            let within = set.within(&other) == (*places & !*others == 0);
+            let meets = set.meets(&other) == (*places & *others != 0);
+            let same = (set == other) == (*places == *others);
+            assert!(rt; within && meets && same, "{places} and {others}");
+            assert_eq!(rt; set.before(&other), at < behind, "{places} and {others}");
+        }
+    }
+}
+
+#[test]
+fn roles_go_in_and_out_at_both_ends_of_each_mask(rt: HostRuntime) {
+    let all = set_of(&rt, 15);
+    for role in ENDS {
+        assert!(rt; role < 250);
+        let alone = RoleSet::empty().with(role);
+        let rest = all.without(role);
+        for other in ENDS {
+            assert_eq!(rt; alone.has(other), other == role, "{role} and {other}");
+            assert_eq!(rt; rest.has(other), other != role, "{role} and {other}");
+        }
+        assert!(rt;
+            rest.with(role) == all && alone.without(role).is_empty(),
+            "{role}"
+        );
+        assert!(rt; all.without(role + 2) == all, "{role}");
+    }
+}
+
+#[test]
+fn the_next_role_is_the_least_from_a_number_on(rt: HostRuntime) {
+    for (places, from, want) in NEXT {
+        let set = set_of(&rt, places);
+        assert_eq!(rt; set.next_from(from), want, "{places} from {from}");
+        assert_eq!(rt; set.least(), set.next_from(0), "{places}");
+    }
+}
+
+#[test]
+fn the_roles_of_a_set_come_rising(rt: HostRuntime) -> Result<(), Fail> {
+    let alloc = rt.alloc();
+    for (places, want) in ROLES {
+        let mut text = String::new(alloc);
+        for role in set_of(&rt, places).roles() {
+            write!(text, " {role}")?;
+        }
+        assert_eq!(rt; text.as_str(), want, "{places}");
+    }
+    Ok(())
 }
 
 #[test]

@@ -1,5 +1,6 @@
 -- Texts that grow piece by piece: a loop keeps "what is written, and the pieces to come, are the whole".
-use Rattle.std.proofs.Common.{ℕ, ◌≡◌, ◌+◌, ◌≤◌, ◌∙◌, List, [], ◌∷◌, ◌++◌, append_assoc, append-nil, length, drop, refl, arith, sym, ap, zero, suc, Some}
+use Rattle.std.proofs.Common.{ℕ, ◌≡◌, ◌+◌, ◌≤◌, ◌∙◌, List, [], ◌∷◌, ◌++◌, append_assoc, append-nil, length, drop, refl}
+use Rattle.std.proofs.Common.{arith, sym, ap, zero, suc, Some}
 use Rattle.std.specs.Prelude.{slice_get}
 use Rattle.std.specs.List.{flat_map}
 use Rattle.text_pieces.specs.Pieces.{pieces_from}

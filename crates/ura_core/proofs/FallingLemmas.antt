@@ -27,7 +27,8 @@ reach_below Permission order role ends l q h = by_end (leads_to_below ((in_junio
 pub falling_below : (holder : Holder) (order : Graph) (set : List ℕ) (role : ℕ) → AreEdges (length order.names) order.edges → role < length order.names
     → (q : ℕ) → IsIn (falling holder order set role) q → q < length order.names
 falling_below holder order set role ends l q h =
-    by_case (or_cases (eqb role q) (has_role (filter (has_role (reach_of holder order role)) set) q) (sym (has_role-with_role (filter (has_role (reach_of holder order role)) set) role q) ∙ h))
+    by_case (or_cases (eqb role q) (has_role (filter (has_role (reach_of holder order role)) set) q)
+    (sym (has_role-with_role (filter (has_role (reach_of holder order role)) set) role q) ∙ h))
   where
     by_case : (eqb role q ≡ true) ⊎ (has_role (filter (has_role (reach_of holder order role)) set) q ≡ true) → q < length order.names
     by_case (inl e) = subst (λ r. r < length order.names) (eqb-true role q e) l

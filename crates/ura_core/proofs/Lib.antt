@@ -4,3 +4,4 @@ pub mod FallingLemmas
 pub mod AnswerLemmas
 pub mod DenialLemmas
 pub mod StrongLemmas
+pub mod CriterionLemmas

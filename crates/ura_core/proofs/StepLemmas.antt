@@ -1,13 +1,15 @@
 -- Steps of weak revocations one after another, and why a denied act has no step.
-use Rattle.std.proofs.Common.{ℕ, ◌≡◌, ◌<◌, ◌≤◌, ◌+◌, ◌∙◌, Bool, true, false, eqb, ltb, List, [], ◌∷◌, ◌++◌, length, refl, arith, zero, suc, sym, subst, ap, inl, inr, Some}
-use Rattle.std.specs.Prelude.{filter, nat_lt, slice_get, slice_set}
-use Rattle.std.proofs.lemmas.Bool.{eqb-true, eq-eqb}
+use Rattle.std.proofs.Common.{ℕ, ◌≡◌, ◌<◌, ◌≤◌, ◌+◌, ◌∙◌, Bool, true, false, eqb, ltb, List, [], ◌∷◌, ◌++◌, length}
+use Rattle.std.proofs.Common.{refl, arith, zero, suc, sym, subst, ap, inl, inr, Some}
+use Rattle.std.specs.Prelude.{◌⊎◌, filter, nat_lt, slice_get, slice_set}
+use Rattle.std.proofs.lemmas.Bool.{eqb-true, eq-eqb, false≢true}
 use Rattle.std.proofs.lemmas.Bool.Decides.{nat_tests}
 use Rattle.list_words.specs.Lists.{Each, Some_of}
 use Rattle.role_order.specs.Roles.{has_role, IsIn, Rises}
 use Rattle.role_order.proofs.SetLemmas.{has_role-above}
 use Rattle.list_words.proofs.TestLemmas.{or_right}
 use Rattle.list_words.proofs.EachLemmas.{each_weaker}
+use Rattle.list_words.proofs.NumberLemmas.{compare}
 use Rattle.arbac_policy.specs.Truth.{Holder}
 use Rattle.arbac_policy.specs.Rules.{Rules}
 use Rattle.arbac_policy.specs.Holders.{admins_of}
@@ -15,57 +17,58 @@ use Rattle.arbac_policy.specs.Steps.{WeakStep, WeakSteps}
 use Rattle.arbac_policy.specs.Verdicts.{WeakDenied, WeaksDenied}
 use Rattle.arbac_policy.specs.declared.verdict.Part.{Part}
 
-pub some_item : {A : Type 0} (P : A → Type 0) (xs : List A) → Some_of P xs → (x : A) × P x
-some_item P [] h = absurd h
-some_item P (x ∷ xs) (inl p) = (x, p)
-some_item P (x ∷ xs) (inr h) = some_item P xs h
+none_below : (xs : List ℕ) (n : ℕ) → Each (λ x. n ≤ x) xs → filter (λ x. nat_lt x n) xs ≡ []
+none_below [] n h = refl
+none_below (x ∷ xs) n h = let ge : ltb x n ≡ false = grind (arith, nat_tests, h.0) in rw ge (none_below xs n h.1)
+
+-- a rising list around one of its roles: those below it, the role and the rest
+around : (xs : List ℕ) (at : ℕ) → Rises xs → has_role xs at ≡ true
+    → (rest : List ℕ) × (xs ≡ filter (λ x. nat_lt x at) xs ++ at ∷ rest)
+    × (filter (λ x. nat_lt x (at + 1)) xs ≡ filter (λ x. nat_lt x at) xs ++ at ∷ [])
+around [] at rises h = cc
+around (x ∷ xs) at rises h = by_order (compare x at) (λ k. around xs at rises.1 k)
+  where
+    by_order : (x < at) ⊎ ((x ≡ at) ⊎ (at < x))
+        → (has_role xs at ≡ true → (rest : List ℕ) × (xs ≡ filter (λ x. nat_lt x at) xs ++ at ∷ rest)
+        × (filter (λ x. nat_lt x (at + 1)) xs ≡ filter (λ x. nat_lt x at) xs ++ at ∷ []))
+        → (rest : List ℕ) × (x ∷ xs ≡ filter (λ x. nat_lt x at) (x ∷ xs) ++ at ∷ rest)
+        × (filter (λ x. nat_lt x (at + 1)) (x ∷ xs) ≡ filter (λ x. nat_lt x at) (x ∷ xs) ++ at ∷ [])
+    by_order (inl l) further =
+        let below : ltb x at ≡ true = grind (arith, nat_tests) in
+        let next : ltb x (at + 1) ≡ true = grind (arith, nat_tests) in
+        let other : eqb x at ≡ false = grind (arith, nat_tests) in
+        let r = further (rw other at h) in
+        (r.0, rw below (ap (λ t. x ∷ t) r.1), rw (next, below) (ap (λ t. x ∷ t) r.2))
+    by_order (inr (inl e)) further =
+        let here : ltb x at ≡ false = grind (arith, nat_tests) in
+        let next : ltb x (at + 1) ≡ true = grind (arith, nat_tests) in
+        let above : Each (λ y. at < y) xs = subst (λ v. Each (λ y. v < y) xs) e rises.0 in
+        let none = none_below xs at (each_weaker (λ y. at < y) (λ y. at ≤ y) (λ y l. omega arith) xs above) in
+        let still = none_below xs (at + 1) (each_weaker (λ y. at < y) (λ y. at + 1 ≤ y) (λ y l. omega arith) xs above) in
+        (xs, rw (here, none) (ap (λ v. v ∷ xs) e), rw (next, here, still, none) (ap (λ v. v ∷ []) e))
+    by_order (inr (inr l)) further =
+        let other : eqb x at ≡ false = grind (arith, nat_tests) in
+        let there : has_role xs at ≡ true = rw other at h in
+        let gone = has_role-above at xs (each_weaker (λ y. x < y) (λ y. at < y) (λ y k. omega arith) xs rises.0) in
+        absurd (false≢true (sym gone ∙ there))
 
 -- the roles below a number, and the next one where it is there
-pub below_next : (xs : List ℕ) (at : ℕ) → Rises xs → has_role xs at ≡ true → filter (λ x. nat_lt x (at + 1)) xs ≡ filter (λ x. nat_lt x at) xs ++ at ∷ []
-below_next [] at rises h = cc
-below_next (x ∷ xs) at rises h = by_order (ltb x at) refl (eqb x at) refl (λ k. below_next xs at rises.1 k)
-  where
-    rest_above : x ≡ at → Each (λ y. at < y) xs
-    rest_above e = subst (λ v. Each (λ y. v < y) xs) e rises.0
+pub below_next : (xs : List ℕ) (at : ℕ) → Rises xs → has_role xs at ≡ true
+    → filter (λ x. nat_lt x (at + 1)) xs ≡ filter (λ x. nat_lt x at) xs ++ at ∷ []
+below_next xs at rises h = (around xs at rises h).2
 
-    none_below : (ys : List ℕ) (n : ℕ) → Each (λ y. n ≤ y) ys → filter (λ x. nat_lt x n) ys ≡ []
-    none_below [] n h = refl
-    none_below (y ∷ ys) n h = let ge : ltb y n ≡ false = grind (arith, nat_tests, h.0) in rw ge (none_below ys n h.1)
+-- a rising list around one of its roles
+pub split_at : (xs : List ℕ) (at : ℕ) → Rises xs → has_role xs at ≡ true → (rest : List ℕ)
+    × (xs ≡ filter (λ x. nat_lt x at) xs ++ at ∷ rest)
+split_at xs at rises h = let r = around xs at rises h in (r.0, r.1)
 
-    by_order : (s : Bool) → ltb x at ≡ s → (t : Bool) → eqb x at ≡ t → (has_role xs at ≡ true → filter (λ x. nat_lt x (at + 1)) xs ≡ filter (λ x. nat_lt x at) xs ++ at ∷ [])
-        → filter (λ x. nat_lt x (at + 1)) (x ∷ xs) ≡ filter (λ x. nat_lt x at) (x ∷ xs) ++ at ∷ []
-    by_order true a true b rest = absurd (omega (arith, lt_of a, eqb-true x at b))
-      where
-        lt_of : ltb x at ≡ true → x < at
-        lt_of a = grind (arith, nat_tests)
-    by_order true a false b rest =
-        let less : ltb x (at + 1) ≡ true = grind (arith, nat_tests) in
-        let there : has_role xs at ≡ true = rw b at h in
-        rw (less, a) (ap (λ t. x ∷ t) (rest there))
-    by_order false a true b rest =
-        let same : x ≡ at = eqb-true x at b in
-        let less : ltb x (at + 1) ≡ true = grind (arith, nat_tests) in
-        let above = rest_above same in
-        rw (
-          less,
-          a,
-          none_below xs (at + 1) (each_weaker (λ y. at < y) (λ y. at + 1 ≤ y) (λ y l. omega arith) xs above),
-          none_below xs at (each_weaker (λ y. at < y) (λ y. at ≤ y) (λ y l. omega arith) xs above),
-        )
-        (ap (λ v. v ∷ []) same)
-    by_order false a false b rest =
-        let above : at < x = grind (arith, nat_tests) in
-        let there : has_role xs at ≡ true = rw b at h in
-        absurd (false_true (sym (has_role-above at xs (each_weaker (λ y. x < y) (λ y. at < y) (λ y l. omega arith) xs rises.0)) ∙ there))
-      where
-        false_true : false ≡ true → ⊥
-        false_true e = cc
-
+-- where the next one isn't there
 pub below_same : (xs : List ℕ) (at : ℕ) → has_role xs at ≡ false → filter (λ x. nat_lt x (at + 1)) xs ≡ filter (λ x. nat_lt x at) xs
 below_same [] at h = refl
 below_same (x ∷ xs) at h = by_test (eqb x at) refl (ltb x at) refl (λ k. below_same xs at k)
   where
-    by_test : (t : Bool) → eqb x at ≡ t → (s : Bool) → ltb x at ≡ s → (has_role xs at ≡ false → filter (λ x. nat_lt x (at + 1)) xs ≡ filter (λ x. nat_lt x at) xs)
+    by_test : (t : Bool) → eqb x at ≡ t → (s : Bool) → ltb x at ≡ s
+        → (has_role xs at ≡ false → filter (λ x. nat_lt x (at + 1)) xs ≡ filter (λ x. nat_lt x at) xs)
         → filter (λ x. nat_lt x (at + 1)) (x ∷ xs) ≡ filter (λ x. nat_lt x at) (x ∷ xs)
     by_test true e s a rest = let no : true ≡ false = rw e at h in cc
     by_test false e true a rest =
@@ -88,37 +91,6 @@ pub below_none : (xs : List ℕ) → filter (λ x. nat_lt x 0) xs ≡ []
 below_none [] = refl
 below_none (x ∷ xs) = let no : ltb x 0 ≡ false = grind (arith, nat_tests) in rw no (below_none xs)
 
--- a rising list around one of its roles
-pub split_at : (xs : List ℕ) (at : ℕ) → Rises xs → has_role xs at ≡ true → (rest : List ℕ) × (xs ≡ filter (λ x. nat_lt x at) xs ++ at ∷ rest)
-split_at [] at rises h = cc
-split_at (x ∷ xs) at rises h = by_order (ltb x at) refl (eqb x at) refl (λ k. split_at xs at rises.1 k)
-  where
-    none_below : (ys : List ℕ) (n : ℕ) → Each (λ y. n ≤ y) ys → filter (λ x. nat_lt x n) ys ≡ []
-    none_below [] n h = refl
-    none_below (y ∷ ys) n h = let ge : ltb y n ≡ false = grind (arith, nat_tests, h.0) in rw ge (none_below ys n h.1)
-
-    by_order : (s : Bool) → ltb x at ≡ s → (t : Bool) → eqb x at ≡ t → (has_role xs at ≡ true → (rest : List ℕ) × (xs ≡ filter (λ x. nat_lt x at) xs ++ at ∷ rest))
-        → (rest : List ℕ) × (x ∷ xs ≡ filter (λ x. nat_lt x at) (x ∷ xs) ++ at ∷ rest)
-    by_order true a true b rest = absurd (omega (arith, lt_of a, eqb-true x at b))
-      where
-        lt_of : ltb x at ≡ true → x < at
-        lt_of a = grind (arith, nat_tests)
-    by_order true a false b rest =
-        let there : has_role xs at ≡ true = rw b at h in
-        let r = rest there in
-        (r.0, rw a (ap (λ t. x ∷ t) r.1))
-    by_order false a true b rest =
-        let same : x ≡ at = eqb-true x at b in
-        let above : Each (λ y. at < y) xs = subst (λ v. Each (λ y. v < y) xs) same rises.0 in
-        (xs, rw (a, none_below xs at (each_weaker (λ y. at < y) (λ y. at ≤ y) (λ y l. omega arith) xs above)) (ap (λ v. v ∷ xs) same))
-    by_order false a false b rest =
-        let above : at < x = grind (arith, nat_tests) in
-        let there : has_role xs at ≡ true = rw b at h in
-        absurd (false_true (sym (has_role-above at xs (each_weaker (λ y. x < y) (λ y. at < y) (λ y l. omega arith) xs rises.0)) ∙ there))
-      where
-        false_true : false ≡ true → ⊥
-        false_true e = cc
-
 pub weak_steps_more : (holder : Holder) (rules : Rules) (users old mid new : List (List ℕ)) (admin target : ℕ) (roles : List ℕ) (role : ℕ)
     → WeakSteps holder rules users old admin target roles mid → WeakStep holder rules (admins_of holder users mid) mid admin target role new
     → WeakSteps holder rules users old admin target (roles ++ role ∷ []) new
@@ -128,7 +100,8 @@ weak_steps_more holder rules users old mid new admin target [] role steps step =
 weak_steps_more holder rules users old mid new admin target (first ∷ roles) role steps step =
     (steps.0, steps.1, weak_steps_more holder rules users steps.0 mid new admin target roles role steps.2 step)
 
-pub weaks_denied_at : (holder : Holder) (rules : Rules) (users old mid : List (List ℕ)) (admin target : ℕ) (roles : List ℕ) (role : ℕ) (rest : List ℕ) (part : Part)
+pub weaks_denied_at : (holder : Holder) (rules : Rules) (users old mid : List (List ℕ)) (admin target : ℕ) (roles : List ℕ) (role : ℕ) (rest : List ℕ)
+    (part : Part)
     → WeakSteps holder rules users old admin target roles mid → WeakDenied holder rules (admins_of holder users mid) mid admin target role part
     → WeaksDenied holder rules users old admin target (roles ++ role ∷ rest) part
 weaks_denied_at holder rules users old mid admin target [] role rest part steps denied =
@@ -136,8 +109,3 @@ weaks_denied_at holder rules users old mid admin target [] role rest part steps 
     inl (subst P steps denied)
 weaks_denied_at holder rules users old mid admin target (first ∷ roles) role rest part steps denied =
     inr (steps.0, steps.1, weaks_denied_at holder rules users steps.0 mid admin target roles role rest part steps.2 denied)
-
-pub get_set_here : {A : Type 0} (xs : List A) (i : ℕ) (y : A) → i < length xs → slice_get (slice_set xs i y) i ≡ Some y
-get_set_here [] i y l = absurd (omega arith)
-get_set_here (z ∷ zs) zero y l = refl
-get_set_here (z ∷ zs) (suc i) y l = get_set_here zs i y (omega arith)

@@ -21,12 +21,14 @@ less-first : (set roles : List ℕ) (role : ℕ) → less_roles (without_role se
 less-first [] roles role = refl
 less-first (x ∷ xs) roles role = by_test (eqb x role) refl (less-first xs roles role)
   where
-    by_test : (t : Bool) → eqb x role ≡ t → less_roles (without_role xs role) roles ≡ less_roles xs (role ∷ roles) → less_roles (without_role (x ∷ xs) role) roles ≡ less_roles (x ∷ xs) (role ∷ roles)
+    by_test : (t : Bool) → eqb x role ≡ t → less_roles (without_role xs role) roles ≡ less_roles xs (role ∷ roles)
+        → less_roles (without_role (x ∷ xs) role) roles ≡ less_roles (x ∷ xs) (role ∷ roles)
     by_test true e rest = rw (e, eqb-sym role x, e) rest
     by_test false e rest = rw (e, eqb-sym role x, e) (again (has_role roles x) rest)
       where
         again : (s : Bool) → less_roles (without_role xs role) roles ≡ less_roles xs (role ∷ roles)
-            → cond (not s) (x ∷ less_roles (without_role xs role) roles) (less_roles (without_role xs role) roles) ≡ cond (not s) (x ∷ less_roles xs (role ∷ roles)) (less_roles xs (role ∷ roles))
+            → cond (not s) (x ∷ less_roles (without_role xs role) roles) (less_roles (without_role xs role) roles) ≡ cond (not s)
+            (x ∷ less_roles xs (role ∷ roles)) (less_roles xs (role ∷ roles))
         again true rest = rest
         again false rest = ap (λ t. x ∷ t) rest
 
@@ -37,11 +39,13 @@ less-none (x ∷ xs) = ap (λ t. x ∷ t) (less-none xs)
 -- weak steps of these roles take them all away
 pub weak_steps_leave : (holder : Holder) (rules : Rules) (users old : List (List ℕ)) (admin target : ℕ) (roles set : List ℕ) (new : List (List ℕ))
     → slice_get old target ≡ Some set → WeakSteps holder rules users old admin target roles new → new ≡ slice_set old target (less_roles set roles)
-weak_steps_leave holder rules users old admin target [] set new at steps = steps ∙ sym (ap (slice_set old target) (less-none set) ∙ set_itself old target set at)
+weak_steps_leave holder rules users old admin target [] set new at steps =
+    steps ∙ sym (ap (slice_set old target) (less-none set) ∙ set_itself old target set at)
 weak_steps_leave holder rules users old admin target (role ∷ roles) set new at steps =
     let same : steps.1.set ≡ set = cc (steps.1.set_is, at) in
     let mid : steps.0 ≡ slice_set old target (without_role set role) = steps.1.gives ∙ ap (λ s. slice_set old target (without_role s role)) same in
-    let at_mid : slice_get steps.0 target ≡ Some (without_role set role) = ap (λ m. slice_get m target) mid ∙ get_set old target set (without_role set role) at in
+    let at_mid : slice_get steps.0 target ≡ Some (without_role set role) =
+    ap (λ m. slice_get m target) mid ∙ get_set old target set (without_role set role) at in
     weak_steps_leave holder rules users steps.0 admin target roles (without_role set role) new at_mid steps.2
     ∙ ap (λ m. slice_set m target (less_roles (without_role set role) roles)) mid
     ∙ set_twice old target (without_role set role) (less_roles (without_role set role) roles)
@@ -53,7 +57,8 @@ strong_leaves rules set role ends held = (
   λ h.
       let b = and_both (has_role set held) (not (has_role fallen held)) (sym (has_role-filter (λ x. not (has_role fallen x)) set held) ∙ h) in
       (b.0, λ led. kept (has_role fallen held) b.1 (fallen_of b.0 led)),
-  λ h. has_role-filter (λ x. not (has_role fallen x)) set held ∙ both_true (has_role set held) (not (has_role fallen held)) h.0 (spared (has_role fallen held) refl h.1),
+  λ h. has_role-filter (λ x. not (has_role fallen x)) set held
+      ∙ both_true (has_role set held) (not (has_role fallen held)) h.0 (spared (has_role fallen held) refl h.1),
 )
   where
     fallen : List ℕ
@@ -67,11 +72,14 @@ strong_leaves rules set role ends held = (
     fallen_of there led =
         has_role-with_role (filter (has_role (seniors_of rules.order role)) set) role held
         ∙ or_right (eqb role held) (has_role (filter (has_role (seniors_of rules.order role)) set) held)
-        (has_role-filter (has_role (seniors_of rules.order role)) set held ∙ both_true (has_role set held) (has_role (seniors_of rules.order role) held) there ((in_seniors rules.order role ends held).1 led))
+        (has_role-filter (has_role (seniors_of rules.order role)) set held
+        ∙ both_true (has_role set held) (has_role (seniors_of rules.order role) held) there ((in_seniors rules.order role ends held).1 led))
 
     led_of : (eqb role held ≡ true) ⊎ (has_role (filter (has_role (seniors_of rules.order role)) set) held ≡ true) → Leads rules.order.edges held role
     led_of (inl e) = subst (λ r. Leads rules.order.edges r role) (eqb-true role held e) here
-    led_of (inr h) = (in_seniors rules.order role ends held).0 (and_both (has_role set held) (has_role (seniors_of rules.order role) held) (sym (has_role-filter (has_role (seniors_of rules.order role)) set held) ∙ h)).1
+    led_of (inr h) = (in_seniors rules.order role ends held).0
+        (and_both (has_role set held) (has_role (seniors_of rules.order role) held)
+        (sym (has_role-filter (has_role (seniors_of rules.order role)) set held) ∙ h)).1
 
     spared : (t : Bool) → has_role fallen held ≡ t → (Leads rules.order.edges held role → ⊥) → not t ≡ true
     spared false e none = refl

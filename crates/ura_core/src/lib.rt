@@ -1,6 +1,7 @@
 //! Verdicts on acts: URA97 for users, and the searches that PRA97 shares.
 #![tactic(auto)]
 
+mod criterion;
 mod decision;
 mod judging;
 mod laws;

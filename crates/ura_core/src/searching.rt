@@ -1,26 +1,26 @@
 //! Which rule or pair is the first that fits.
 
-ghost use Rattle.std.specs.Prelude.{ℕ, ◌≡◌, ◌<◌, ◌^◌, ◌↔◌, ◌⊎◌, IsTrue, IfSome, IfNone, length};
+ghost use Rattle.std.specs.Prelude.{◌≡◌, ◌<◌, ◌^◌, ◌↔◌, IsTrue, IfSome, IfNone, length};
 ghost use Rattle.list_words.specs.Lists.{Each, Some_of, IsFirst};
 ghost use Rattle.role_order.specs.Ranges.{IsInRange};
-ghost use Rattle.role_order.specs.Graph.{Leads};
 ghost use Rattle.role_order.specs.Roles.{with_role};
-ghost use Rattle.arbac_policy.specs.Truth.{Holder, IsMember, Satisfies, term_of};
-ghost use Rattle.arbac_policy.specs.Rules.{Rules, IsKnownRange, IsKnownAssign, IsKnownRevoke, IsKnownPair};
-ghost use Rattle.arbac_policy.specs.Holders.{assign_rules, revoke_rules, pairs_of};
+ghost use Rattle.arbac_policy.specs.Truth.{IsMember};
+ghost use Rattle.arbac_policy.specs.Rules.{IsKnownRange, IsKnownAssign, IsKnownRevoke, IsKnownPair};
+ghost use Rattle.arbac_policy.specs.Holders.{assign_rules, revoke_rules};
 ghost use Rattle.arbac_policy.specs.Steps.{Blocks, LetsAssign, LetsRevoke};
 ghost use Rattle.arbac_policy.specs.Verdicts.{FitsRule};
 
+use crate::criterion::{Criterion, first_met, some_met};
 use arbac_policy::{CanAssign, CanRevoke, On, Policy, is_member, is_true};
 use role_order::{Order, Range, RoleSet};
 
 /// The rules by which roles are given.
-pub fn assign_of(on: On, policy: &Policy) -> &[CanAssign]
+fn assign_of(on: On, policy: &Policy) -> &[CanAssign]
     ensures rules { result.now ≡ assign_rules on policy.now }
     ensures known { Each (IsKnownAssign (length policy.now.order.names)) result.now }
     ensures few { length result.now < 2 ^ 32 }
 {
-    let _order = policy.order();
+    policy.law();
     match on {
         On::User => policy.assign(),
         On::Permission => policy.assignp(),
@@ -28,18 +28,19 @@ pub fn assign_of(on: On, policy: &Policy) -> &[CanAssign]
 }
 
 /// The rules by which roles are taken away.
-pub fn revoke_of(on: On, policy: &Policy) -> &[CanRevoke]
+fn revoke_of(on: On, policy: &Policy) -> &[CanRevoke]
     ensures rules { result.now ≡ revoke_rules on policy.now }
     ensures known { Each (IsKnownRevoke (length policy.now.order.names)) result.now }
     ensures few { length result.now < 2 ^ 32 }
 {
-    let _order = policy.order();
+    policy.law();
     match on {
         On::User => policy.revoke(),
         On::Permission => policy.revokep(),
     }
 }
 
+/// Whether the range has the role and the administrator has the rule's administrative role.
 fn fits(policy: &Policy, range: &Range, admin: u16, by: &RoleSet, role: u16) -> bool
     requires range { IsKnownRange (length policy.now.order.names) range.now }
     requires admin { admin < length policy.now.order.names }
@@ -49,27 +50,88 @@ fn fits(policy: &Policy, range: &Range, admin: u16, by: &RoleSet, role: u16) -> 
     policy.order().in_range(range, role) && is_member(policy.order(), by, admin)
 }
 
-fn lets_assign(
-    on: On,
-    policy: &Policy,
-    rule: &CanAssign,
-    by: &RoleSet,
-    set: &RoleSet,
+/// A rule whose range has the role.
+#[derive(Clone, Copy)]
+struct InRange<'a> {
+    policy: &'a Policy,
     role: u16,
-) -> bool
-    requires known { IsKnownAssign (length policy.now.order.names) rule.now }
-    requires role { role < length policy.now.order.names }
-    ensures { IsTrue result ↔ LetsAssign on policy.now by.now set.now role rule.now }
-{
-    fits(policy, &rule.range, rule.admin, by, role) && is_true(on, policy.order(), &rule.cond, set)
 }
 
-fn lets_revoke(policy: &Policy, rule: &CanRevoke, by: &RoleSet, role: u16) -> bool
-    requires known { IsKnownRevoke (length policy.now.order.names) rule.now }
-    requires role { role < length policy.now.order.names }
-    ensures { IsTrue result ↔ LetsRevoke policy.now by.now role rule.now }
-{
-    fits(policy, &rule.range, rule.admin, by, role)
+impl<'a> Criterion<CanAssign> for InRange<'a> {
+    ghost ready = { λ s. s.role < length s.policy.now.order.names };
+
+    ghost known = { λ s rule. IsKnownAssign (length s.policy.now.order.names) rule };
+
+    ghost met = { λ s rule. IsInRange s.policy.now.order rule.range s.role };
+
+    fn is_met(&self, rule: &CanAssign) -> bool {
+        self.policy.order().in_range(&rule.range, self.role)
+    }
+}
+
+impl<'a> Criterion<CanRevoke> for InRange<'a> {
+    ghost ready = { λ s. s.role < length s.policy.now.order.names };
+
+    ghost known = { λ s rule. IsKnownRevoke (length s.policy.now.order.names) rule };
+
+    ghost met = { λ s rule. IsInRange s.policy.now.order rule.range s.role };
+
+    fn is_met(&self, rule: &CanRevoke) -> bool {
+        self.policy.order().in_range(&rule.range, self.role)
+    }
+}
+
+/// A rule that the role and the administrator fit.
+#[derive(Clone, Copy)]
+struct Fitting<'a> {
+    policy: &'a Policy,
+    by: &'a RoleSet,
+    role: u16,
+}
+
+impl<'a> Criterion<CanAssign> for Fitting<'a> {
+    ghost ready = { λ s. s.role < length s.policy.now.order.names };
+
+    ghost known = { λ s rule. IsKnownAssign (length s.policy.now.order.names) rule };
+
+    ghost met = { λ s rule. FitsRule s.policy.now s.by.now s.role rule.range rule.admin };
+
+    fn is_met(&self, rule: &CanAssign) -> bool {
+        fits(self.policy, &rule.range, rule.admin, self.by, self.role)
+    }
+}
+
+impl<'a> Criterion<CanRevoke> for Fitting<'a> {
+    ghost ready = { λ s. s.role < length s.policy.now.order.names };
+
+    ghost known = { λ s rule. IsKnownRevoke (length s.policy.now.order.names) rule };
+
+    ghost met = { λ s rule. LetsRevoke s.policy.now s.by.now s.role rule };
+
+    fn is_met(&self, rule: &CanRevoke) -> bool {
+        fits(self.policy, &rule.range, rule.admin, self.by, self.role)
+    }
+}
+
+/// A rule that lets the administrator give the role to whoever has the set.
+#[derive(Clone, Copy)]
+struct Letting<'a> {
+    on: On,
+    fitting: Fitting<'a>,
+    set: &'a RoleSet,
+}
+
+impl<'a> Criterion<CanAssign> for Letting<'a> {
+    ghost ready = { λ s. s.fitting.role < length s.fitting.policy.now.order.names };
+
+    ghost known = { λ s rule. IsKnownAssign (length s.fitting.policy.now.order.names) rule };
+
+    ghost met = { λ s rule. LetsAssign s.on s.fitting.policy.now s.fitting.by.now s.set.now s.fitting.role rule };
+
+    fn is_met(&self, rule: &CanAssign) -> bool {
+        self.fitting.is_met(rule)
+            && is_true(self.on, self.fitting.policy.order(), &rule.cond, self.set)
+    }
 }
 
 /// Whether some rule lets the administrator give the role to the target.
@@ -77,12 +139,8 @@ pub fn some_assign(on: On, policy: &Policy, by: &RoleSet, set: &RoleSet, role: u
     requires { role < length policy.now.order.names }
     ensures { IsTrue result ↔ Some_of (LetsAssign on policy.now by.now set.now role) (assign_rules on policy.now) }
 {
-    for rule in assign_of(on, policy) {
-        if lets_assign(on, policy, rule, by, set, role) {
-            return true;
-        }
-    }
-    false
+    let fitting = Fitting { policy, by, role };
+    some_met(&Letting { on, fitting, set }, assign_of(on, policy))
 }
 
 /// Whether some rule lets the administrator take the role away.
@@ -90,12 +148,7 @@ pub fn some_revoke(on: On, policy: &Policy, by: &RoleSet, role: u16) -> bool
     requires { role < length policy.now.order.names }
     ensures { IsTrue result ↔ Some_of (LetsRevoke policy.now by.now role) (revoke_rules on policy.now) }
 {
-    for rule in revoke_of(on, policy) {
-        if lets_revoke(policy, rule, by, role) {
-            return true;
-        }
-    }
-    false
+    some_met(&Fitting { policy, by, role }, revoke_of(on, policy))
 }
 
 /// The first rule for giving roles whose range has the role.
@@ -104,12 +157,7 @@ pub fn assign_in_range(on: On, policy: &Policy, role: u16) -> Option<u32>
     ensures found { IfSome result (IsFirst (λ rule. IsInRange policy.now.order rule.range role) (assign_rules on policy.now)) }
     ensures none { IfNone result (¬ Some_of (λ rule. IsInRange policy.now.order rule.range role) (assign_rules on policy.now)) }
 {
-    for (place, rule) in assign_of(on, policy).iter().enumerate() {
-        if policy.order().in_range(&rule.range, role) {
-            return Some(place as u32);
-        }
-    }
-    None
+    first_met(&InRange { policy, role }, assign_of(on, policy))
 }
 
 /// The first rule for giving roles whose range has the role and whose administrative role the administrator has.
@@ -118,12 +166,7 @@ pub fn assign_fitting(on: On, policy: &Policy, by: &RoleSet, role: u16) -> Optio
     ensures found { IfSome result (IsFirst (λ rule. FitsRule policy.now by.now role rule.range rule.admin) (assign_rules on policy.now)) }
     ensures none { IfNone result (¬ Some_of (λ rule. FitsRule policy.now by.now role rule.range rule.admin) (assign_rules on policy.now)) }
 {
-    for (place, rule) in assign_of(on, policy).iter().enumerate() {
-        if fits(policy, &rule.range, rule.admin, by, role) {
-            return Some(place as u32);
-        }
-    }
-    None
+    first_met(&Fitting { policy, by, role }, assign_of(on, policy))
 }
 
 /// The first rule for taking roles away whose range has the role.
@@ -132,12 +175,7 @@ pub fn revoke_in_range(on: On, policy: &Policy, role: u16) -> Option<u32>
     ensures found { IfSome result (IsFirst (λ rule. IsInRange policy.now.order rule.range role) (revoke_rules on policy.now)) }
     ensures none { IfNone result (¬ Some_of (λ rule. IsInRange policy.now.order rule.range role) (revoke_rules on policy.now)) }
 {
-    for (place, rule) in revoke_of(on, policy).iter().enumerate() {
-        if policy.order().in_range(&rule.range, role) {
-            return Some(place as u32);
-        }
-    }
-    None
+    first_met(&InRange { policy, role }, revoke_of(on, policy))
 }
 
 /// Whether a user with the set is a member of the other role once he has the role.
@@ -149,14 +187,26 @@ fn joins(order: &Order, set: &RoleSet, role: u16, other: u16) -> bool
     order.geq(role, other) || is_member(order, set, other)
 }
 
-fn blocks(order: &Order, pair: (u16, u16), set: &RoleSet, role: u16) -> bool
-    requires pair { IsKnownPair (length order.now.names) pair }
-    requires role { role < length order.now.names }
-    ensures { IsTrue result ↔ Blocks order.now.edges set.now role pair }
-{
-    (order.geq(role, pair.0) || order.geq(role, pair.1))
-        && joins(order, set, role, pair.0)
-        && joins(order, set, role, pair.1)
+/// An exclusive pair that blocks the role for the set.
+#[derive(Clone, Copy)]
+struct Blocking<'a> {
+    order: &'a Order,
+    set: &'a RoleSet,
+    role: u16,
+}
+
+impl<'a> Criterion<(u16, u16)> for Blocking<'a> {
+    ghost ready = { λ s. s.role < length s.order.now.names };
+
+    ghost known = { λ s pair. IsKnownPair (length s.order.now.names) pair };
+
+    ghost met = { λ s pair. Blocks s.order.now.edges s.set.now s.role pair };
+
+    fn is_met(&self, pair: &(u16, u16)) -> bool {
+        (self.order.geq(self.role, pair.0) || self.order.geq(self.role, pair.1))
+            && joins(self.order, self.set, self.role, pair.0)
+            && joins(self.order, self.set, self.role, pair.1)
+    }
 }
 
 /// The first exclusive pair that blocks the role for the set.
@@ -165,10 +215,7 @@ pub fn first_blocking(policy: &Policy, set: &RoleSet, role: u16) -> Option<u32>
     ensures found { IfSome result (IsFirst (Blocks policy.now.order.edges set.now role) policy.now.exclusive) }
     ensures none { IfNone result (¬ Some_of (Blocks policy.now.order.edges set.now role) policy.now.exclusive) }
 {
-    for (place, &pair) in policy.exclusive().iter().enumerate() {
-        if blocks(policy.order(), pair, set, role) {
-            return Some(place as u32);
-        }
-    }
-    None
+    policy.law();
+    let order = policy.order();
+    first_met(&Blocking { order, set, role }, policy.exclusive())
 }

@@ -4,7 +4,8 @@ ghost use Rattle.std.specs.Prelude.{ℕ, ◌≡◌, ◌<◌, length, slice_get, 
 ghost use Rattle.std.specs.Option.{option_copied};
 ghost use Rattle.role_order.specs.Roles.{Rises};
 ghost use Rattle.arbac_policy.specs.Truth.{Holder, user};
-ghost use Rattle.arbac_policy.specs.Holders.{falling as falling_of, reach_of, admins_of};
+ghost use Rattle.arbac_policy.specs.Holders as holders;
+ghost use Rattle.arbac_policy.specs.Holders.{reach_of, admins_of};
 ghost use Rattle.arbac_policy.specs.Steps.{WeakSteps, WeakStep};
 ghost use Rattle.arbac_policy.specs.Verdicts.{WeaksDenied, WeakDenied};
 ghost use Rattle.ura_core.specs.Answers.{IfGranted, IfDenied};
@@ -35,7 +36,7 @@ fn reach(on: On, policy: &Policy, role: u16) -> RoleSet
 fn falling(on: On, policy: &Policy, set: &RoleSet, role: u16) -> RoleSet
     requires role { role < length policy.now.order.names }
     requires few { role < MOST_ROLES }
-    ensures falling { result ≡ falling_of on policy.now.order set.now role }
+    ensures falling { result ≡ holders.falling on policy.now.order set.now role }
     ensures rises { Rises result }
 {
     set.common(&reach(on, policy, role)).with(role)
@@ -101,9 +102,9 @@ pub fn revoke_all(
     requires role { act.now.role < length policy.now.order.names }
     requires set { slice_get list.now act.now.target ≡ Some set.now }
     ensures granted { IfGranted result (λ new. WeakSteps on policy.now users.now list.now act.now.admin act.now.target
-        (falling_of on policy.now.order set.now act.now.role) (slice_set list.now act.now.target new)) }
+        (holders.falling on policy.now.order set.now act.now.role) (slice_set list.now act.now.target new)) }
     ensures denied { IfDenied result (WeaksDenied on policy.now users.now list.now act.now.admin act.now.target
-        (falling_of on policy.now.order set.now act.now.role)) }
+        (holders.falling on policy.now.order set.now act.now.role)) }
 {
     let count = policy.order().count();
     let falling = falling(on, policy, set, act.role);

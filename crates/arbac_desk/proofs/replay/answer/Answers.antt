@@ -3,8 +3,8 @@ use Rattle.arbac_desk.proofs.replay.answer.Goals as goal
 
 -- what was asked of the shelf, and what was written of the reply
 pub returns-clause-answer : goal.returns-clause-answer
-returns-clause-answer g c = answered c.args.run.now
-    (g.H.Shelf.seen c.args.shelf.now) (g.H.Shelf.seen c.reply_from-reply.new.shelf) _ _ c.reply_from-reply.result _
+returns-clause-answer g c =
+    answered c.args.run.now (g.H.Shelf.seen c.args.shelf.now) (g.H.Shelf.seen c.reply_from-reply.new.shelf) _ _ c.reply_from-reply.result _
     c.reply_from-reply.ensures.asked c.reply_from-reply.ensures.reply c.say_reply.ensures
 
 -- it tells its faults

@@ -1,4 +1,5 @@
-use Rattle.arbac_laws.proofs.PairLemmas.{one_is_not_two, two_cover_no_one, third_covers, third_not_covering, lacks_not_covering, either_covers, lesser_not_covering, lacking_covered}
+use Rattle.arbac_laws.proofs.PairLemmas.{one_is_not_two, two_cover_no_one, third_covers, third_not_covering, lacks_not_covering, either_covers}
+use Rattle.arbac_laws.proofs.PairLemmas.{lesser_not_covering, lacking_covered}
 use Rattle.arbac_laws.proofs.rows.cover_rows.Goals as goal
 
 pub returns : goal.returns

@@ -11,5 +11,6 @@ returns _ = record {
   four = four_obligations;
   none = nothing_will_do;
   closed = both_closed;
-  unreachable = list_excludes pair_policy (are_seniors pair_policy.order tt) one_admin (both (has c) (has d) ∷ []) ((hits_both c d ∷ []) ∷ []) both_closed;
+  unreachable = list_excludes pair_policy (are_seniors pair_policy.order tt) one_admin (both (has c) (has d) ∷ [])
+      ((hits_both c d ∷ []) ∷ []) both_closed;
 }

@@ -6,6 +6,7 @@ use Rattle.arbac_policy.proofs.policy.are_known_revokes.Goals as goal
 
 pub returns : goal.returns
 returns c = (
-  λ h. each_of (IsKnownRevoke c.args.count) c.args.rules.now (λ k rule e. c.loop-rule.invariant k rule (omega (arith, (get_within c.args.rules.now k rule e).0)) e),
+  λ h. each_of (IsKnownRevoke c.args.count) c.args.rules.now
+      (λ k rule e. c.loop-rule.invariant k rule (omega (arith, (get_within c.args.rules.now k rule e).0)) e),
   λ h. refl,
 )

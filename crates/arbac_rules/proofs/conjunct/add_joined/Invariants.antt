@@ -1,6 +1,6 @@
 use Rattle.std.proofs.Common.{◌≡◌, ◌++◌, take}
 use Rattle.arbac_laws.specs.Conjuncts.{join_with}
-use Rattle.arbac_rules.specs.Views.{need_of, needs_of}
+use Rattle.arbac_laws.specs.Views.{need_of, needs_of}
 use Rattle.arbac_rules.proofs.conjunct.add_joined.Given as goal
 
 abbrev pub invariant-loop-other : goal.invariant-loop-other

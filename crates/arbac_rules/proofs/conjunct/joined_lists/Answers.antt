@@ -1,6 +1,6 @@
 use Rattle.std.proofs.Common.{◌∙◌, ap}
 use Rattle.arbac_laws.specs.Conjuncts.{join_all}
-use Rattle.arbac_rules.specs.Views.{needs_of}
+use Rattle.arbac_laws.specs.Views.{needs_of}
 use Rattle.arbac_rules.proofs.JoinLemmas.{joined_one, get_needs, take_needs}
 use Rattle.arbac_rules.proofs.conjunct.joined_lists.Goals as goal
 

@@ -1,6 +1,6 @@
 use Rattle.std.proofs.Common.{◌≡◌, take}
 use Rattle.arbac_laws.specs.Conjuncts.{join_all}
-use Rattle.arbac_rules.specs.Views.{needs_of}
+use Rattle.arbac_laws.specs.Views.{needs_of}
 use Rattle.arbac_rules.proofs.conjunct.joined_lists.Given as goal
 
 abbrev pub invariant-loop-left : goal.invariant-loop-left

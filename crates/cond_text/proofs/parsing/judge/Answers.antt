@@ -8,7 +8,9 @@ pub loop-first-preserved : goal.loop-first-preserved
 loop-first-preserved c = record {
   few = omega (arith, few_step c.loop-first.terms c.loop-first.rest.now (c.in-Some.first, c.in-Some.after.now) c.in-Some.ensures, c.weight-terms.ensures);
   same = ap (λ w. judge c.args.count c.args.size (state_of c.in_ok-state.state) (c.loop-first.terms + w) c.in-Some.after.now) c.weight-terms.ensures
-      ∙ judge_step c.args.count c.args.size (state_of c.loop-first.state) (state_of c.in_ok-state.state) c.loop-first.terms c.loop-first.rest.now (c.in-Some.first, c.in-Some.after.now) c.in-Some.ensures
-      (ap (λ ahead. advance c.args.count (state_of c.loop-first.state) c.loop-first.terms c.in-Some.first.place ahead c.in-Some.first.word) (sym c.begins_with_name.ensures) ∙ c.in_ok-state.ensures)
+      ∙ judge_step c.args.count c.args.size (state_of c.loop-first.state) (state_of c.in_ok-state.state) c.loop-first.terms c.loop-first.rest.now
+      (c.in-Some.first, c.in-Some.after.now) c.in-Some.ensures
+      (ap (λ ahead. advance c.args.count (state_of c.loop-first.state) c.loop-first.terms c.in-Some.first.place ahead c.in-Some.first.word)
+      (sym c.begins_with_name.ensures) ∙ c.in_ok-state.ensures)
       ∙ c.loop-first.invariant.same;
 }

@@ -5,5 +5,11 @@ use Rattle.desk_texts.proofs.lines.malformed.Goals as goal
 -- the pieces, in their order, are the line
 pub returns : goal.returns
 unfolding malformed_line
-returns g c = rw (c.in_ok-put-5.ensures, c.in_ok-put-4.ensures, c.in_ok-put-3.ensures, c.in_ok-put-2.ensures, c.in_ok-put.ensures, c.new-text.ensures.items)
-    (simp append_assoc)
+returns g c = rw (
+  c.in_ok-put-5.ensures,
+  c.in_ok-put-4.ensures,
+  c.in_ok-put-3.ensures,
+  c.in_ok-put-2.ensures,
+  c.in_ok-put.ensures,
+  c.new-text.ensures.items,
+) (simp append_assoc)

@@ -1,15 +1,13 @@
 use Rattle.std.proofs.Common.{ℕ, ◌≡◌, ◌<◌, length, get_or, List, arith, sym, ◌∙◌}
 use Rattle.hall_match.specs.Rows.{lists, row_at}
 use Rattle.hall_match.specs.Search.{Instance, instance}
-use Rattle.hall_match.proofs.SearchLemmas.{near, row_seen, row_next, goes_further, next_seen, read_true}
+use Rattle.hall_match.proofs.SearchLemmas.{near_inside, row_seen, row_next, goes_further, next_seen, read_true}
 use Rattle.hall_match.proofs.search.reach_row.Goals as goal
 
 pub index-requires : goal.index-requires
 index-requires c =
-    let place = near (row_at (lists c.args.rows.now) c.args.by.item) c.row_of-place-items.result.now
-    c.loop-place.place-index c.row_of-place-items.ensures c.loop-place-test.true in
-    let inside = c.requires.inside c.args.by.item (get_or c.row_of-place-items.result.now
-    c.loop-place.place-index 0) place in
+    let inside = near_inside (lists c.args.rows.now) (length c.args.capacities.now) c.args.by.item c.row_of-place-items.result.now c.loop-place.place-index
+    c.requires.inside c.row_of-place-items.ensures c.loop-place-test.true in
     omega (
       arith,
       inside,
@@ -20,25 +18,19 @@ index-requires c =
 
 pub visit-requires : goal.visit-requires
 visit-requires c =
-    let place = near (row_at (lists c.args.rows.now) c.args.by.item) c.row_of-place-items.result.now
-    c.loop-place.place-index c.row_of-place-items.ensures c.loop-place-test.true in
-    let inside = c.requires.inside c.args.by.item (get_or c.row_of-place-items.result.now
-    c.loop-place.place-index 0) place in
+    let inside = near_inside (lists c.args.rows.now) (length c.args.capacities.now) c.args.by.item c.row_of-place-items.result.now c.loop-place.place-index
+    c.requires.inside c.row_of-place-items.ensures c.loop-place-test.true in
     omega (arith, inside, c.requires.places, c.loop-place.invariant.goes_on.places)
 
 pub has_room-requires-clause-listed : goal.has_room-requires-clause-listed
 has_room-requires-clause-listed c =
-    let place = near (row_at (lists c.args.rows.now) c.args.by.item) c.row_of-place-items.result.now
-    c.loop-place.place-index c.row_of-place-items.ensures c.loop-place-test.true in
-    c.requires.inside c.args.by.item (get_or c.row_of-place-items.result.now
-    c.loop-place.place-index 0) place
+    near_inside (lists c.args.rows.now) (length c.args.capacities.now) c.args.by.item c.row_of-place-items.result.now c.loop-place.place-index
+    c.requires.inside c.row_of-place-items.ensures c.loop-place-test.true
 
 pub has_room-requires-clause-inside : goal.has_room-requires-clause-inside
 has_room-requires-clause-inside c =
-    let place = near (row_at (lists c.args.rows.now) c.args.by.item) c.row_of-place-items.result.now
-    c.loop-place.place-index c.row_of-place-items.ensures c.loop-place-test.true in
-    let inside = c.requires.inside c.args.by.item (get_or c.row_of-place-items.result.now
-    c.loop-place.place-index 0) place in
+    let inside = near_inside (lists c.args.rows.now) (length c.args.capacities.now) c.args.by.item c.row_of-place-items.result.now c.loop-place.place-index
+    c.requires.inside c.row_of-place-items.ensures c.loop-place-test.true in
     omega (arith, inside, c.requires.used)
 
 pub returns-then-has_room : goal.returns-then-has_room
@@ -71,9 +63,8 @@ loop-place-preserved-then-index c =
     let seen = old.search.seen.items in
     let items : List ℕ = c.row_of-place-items.result.now in
     let place : ℕ = get_or items old.place-index 0 in
-    let contained = near (row_at (lists c.args.rows.now) c.args.by.item) items old.place-index
-    c.row_of-place-items.ensures c.loop-place-test.true in
-    let inside = c.requires.inside c.args.by.item place contained in
+    let inside = near_inside (lists c.args.rows.now) (length c.args.capacities.now) c.args.by.item items old.place-index
+    c.requires.inside c.row_of-place-items.ensures c.loop-place-test.true in
     let within : place < length seen =
     omega (arith, inside, c.requires.places, old.invariant.goes_on.places) in
     let here = read_true seen place c.index.result.now within c.index.ensures c.if-index.true in

@@ -1,39 +1,36 @@
-use Rattle.std.proofs.Common.{ℕ, length, map, replicate, rules, Some, List}
+use Rattle.std.proofs.Common.{ℕ, List, length, map, sym, subst}
+use Rattle.std.proofs.lemmas.List.{length-map}
+use Rattle.std.proofs.lemmas.Option.{IfSome_then}
+use Rattle.hall_match.proofs.JoinedLemmas.{none_then, none_embeds}
+use Rattle.hall_match.specs.Joined.{IsTransversal, IsLeastTransversal, JoinsAt}
 use Rattle.arbac_policy.specs.Truth.{term_of}
-use Rattle.arbac_policy.specs.Goals.{GoalMet}
-use Rattle.plan_replay.specs.GoalLists.{ArePairs, AreLeast}
-use Rattle.std.proofs.Common.{sym, subst}
-use Rattle.plan_replay.proofs.GoalLemmas.{length-map, pairs_edges, least_meets, none_met}
-use Rattle.hall_match.specs.Matchings.{AreEdges, IsMatching, IsLeast}
+use Rattle.plan_replay.proofs.GoalLemmas.{MeetsOne, least_meets}
 use Rattle.plan_replay.proofs.goals.goal_met.Goals as goal
 
--- src/goals.rt:79:11
-pub match_all-requires : goal.match_all-requires
-match_all-requires c =
-    let are : ArePairs c.args.policy.now.order.edges (map term_of c.args.goal.now) c.args.population.now c.in_ok-pairs.pairs.items = rw c.order.ensures.order at c.in_ok-pairs.ensures in
-    let edges : AreEdges (length c.args.goal.now) (replicate (length c.args.population.now) (Some 1)) c.in_ok-pairs.pairs.items =
-    subst (λ n. AreEdges n (replicate (length c.args.population.now) (Some 1)) c.in_ok-pairs.pairs.items) (length-map term_of c.args.goal.now)
-    (pairs_edges c.args.policy.now.order.edges (map term_of c.args.goal.now) c.args.population.now c.in_ok-pairs.pairs.items are) in
-    rw (c.deref-2.ensures.value, c.deref.ensures.value, c.in_ok-ones.ensures) edges
+-- the goal is one of the policy, whose order is read
+pub invariant_of-meeting : goal.invariant_of-meeting
+invariant_of-meeting c = record { known = rw (c.order.ensures.order) c.requires.known }
 
--- src/goals.rt:76:1
-pub returns-in-Matched-clause-met : goal.returns-in-Matched-clause-met
-returns-in-Matched-clause-met c =
-    let are : ArePairs c.args.policy.now.order.edges (map term_of c.args.goal.now) c.args.population.now c.in_ok-pairs.pairs.items = rw c.order.ensures.order at c.in_ok-pairs.ensures in
-    let least : IsLeast (length c.args.goal.now) (replicate (length c.args.population.now) (Some 1)) c.in_ok-pairs.pairs.items c.in-Matched.users.items =
-    rw (c.in-Matched.is, c.deref-2.ensures.value, c.deref.ensures.value, c.in_ok-ones.ensures) at c.in_ok-users.ensures.matched in
-    let met : AreLeast c.args.policy.now.order.edges (map term_of c.args.goal.now) c.args.population.now c.in-Matched.users.items =
-    least_meets c.args.policy.now.order.edges (map term_of c.args.goal.now) c.args.population.now c.in_ok-pairs.pairs.items c.in-Matched.users.items are
-    (subst (λ n. IsLeast n (replicate (length c.args.population.now) (Some 1)) c.in_ok-pairs.pairs.items c.in-Matched.users.items) (sym (length-map term_of c.args.goal.now)) least) in
-    search (rules, met)
+-- the least transversal is the least list of users who meet the goal
+pub returns-clause-met : goal.returns-clause-met
+returns-clause-met c =
+    let edges = c.args.policy.now.order.edges in
+    let goal = map term_of c.args.goal.now in
+    let sets = c.args.population.now in
+    IfSome_then c.in_ok-users.users c.in_ok-users.ensures.least (λ list h.
+    let least : IsLeastTransversal (JoinsAt (MeetsOne edges) goal sets) (length c.args.goal.now) (length sets) list.items = rw (c.order.ensures.order) at h in
+    least_meets edges goal sets list.items
+    (subst (λ n. IsLeastTransversal (JoinsAt (MeetsOne edges) goal sets) n (length sets) list.items) (sym (length-map c.args.goal.now term_of)) least))
 
--- src/goals.rt:64:1
+-- an injective map would be a transversal
 pub returns-clause-unmet : goal.returns-clause-unmet
 returns-clause-unmet c =
-    let are : ArePairs c.args.policy.now.order.edges (map term_of c.args.goal.now) c.args.population.now c.in_ok-pairs.pairs.items = rw c.order.ensures.order at c.in_ok-pairs.ensures in
-    let none : (list : List ℕ) → ¬ IsMatching (length c.args.goal.now) (replicate (length c.args.population.now) (Some 1)) c.in_ok-pairs.pairs.items list =
-    rw (c.in-Deficient.is, c.deref-2.ensures.value, c.deref.ensures.value, c.in_ok-ones.ensures) at c.in_ok-users.ensures.unmatched in
-    let unmet : ¬ GoalMet c.args.policy.now.order.edges (map term_of c.args.goal.now) c.args.population.now =
-    none_met c.args.policy.now.order.edges (map term_of c.args.goal.now) c.args.population.now c.in_ok-pairs.pairs.items are
-    (subst (λ n. (list : List ℕ) → ¬ IsMatching n (replicate (length c.args.population.now) (Some 1)) c.in_ok-pairs.pairs.items list) (sym (length-map term_of c.args.goal.now)) none) in
-    search (rules, unmet)
+    let edges = c.args.policy.now.order.edges in
+    let goal = map term_of c.args.goal.now in
+    let sets = c.args.population.now in
+    none_then c.in_ok-users.users c.in_ok-users.ensures.none (λ h.
+    let none : (list : List ℕ) → ¬ IsTransversal (JoinsAt (MeetsOne edges) goal sets) (length c.args.goal.now) (length sets) list =
+    rw (c.order.ensures.order) at h in
+    none_embeds (MeetsOne edges) goal sets
+    (subst (λ n. (list : List ℕ) → ¬ IsTransversal (JoinsAt (MeetsOne edges) goal sets) n (length sets) list)
+    (sym (length-map c.args.goal.now term_of)) none))

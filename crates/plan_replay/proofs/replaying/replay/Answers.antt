@@ -25,6 +25,7 @@ returns-in-Denied-clause-no_run c = no_run c.args.policy.now c.args.start.now c.
 pub loop-place-preserved : goal.loop-place-preserved
 loop-place-preserved c = record {
   run = run_taken c.args.policy.now c.args.start.now c.loop-place.users.items _ c.args.acts.now c.loop-place.place _
-      (get_at c.args.acts.now c.loop-place.place _ c.loop-place-test.true) c.loop-place.invariant.run (rw c.deref.ensures.value at c.in-Granted.ensures.granted);
+      (get_at c.args.acts.now c.loop-place.place _ c.loop-place-test.true) c.loop-place.invariant.run
+      (rw c.deref.ensures.value at c.in-Granted.ensures.granted);
   long = length-slice_set c.loop-place.users.items _ c.in-Granted.set ∙ c.loop-place.invariant.long;
 }

@@ -1,5 +1,5 @@
 use Rattle.std.proofs.Common.{map, take}
-use Rattle.policy_text.specs.Runs.{NamesSet}
+use Rattle.cond_text.specs.Named.{NamesSet}
 use Rattle.policy_text.proofs.body.set_named.Given as goal
 
 abbrev pub invariant-loop-name : goal.invariant-loop-name

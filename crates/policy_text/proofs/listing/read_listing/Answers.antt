@@ -2,7 +2,7 @@ use Rattle.std.proofs.Common.{arith, inl, refl}
 use Rattle.std.proofs.lemmas.Result.{err_from_is_err_and}
 use Rattle.policy_text.specs.Runs.{nothing}
 use Rattle.policy_text.specs.Steps.{listing_view}
-use Rattle.policy_text.proofs.LineLemmas.{cut_shorter}
+use Rattle.cond_text.proofs.CutLemmas.{cut_shorter}
 use Rattle.policy_text.proofs.StepLemmas.{passes_more, told_stop}
 use Rattle.policy_text.proofs.RunLemmas.{few_nothing}
 use Rattle.policy_text.proofs.listing.read_listing.Goals as goal
@@ -14,7 +14,8 @@ add_line-requires-clause-few c =
 pub returns-in_err-add_line-clause-fault : goal.returns-in_err-add_line-clause-fault
 returns-in_err-add_line-clause-fault c =
     let p = err_from_is_err_and c.from_residual.result c.from_residual.ensures.1 in
-    rw (p.1, p.2) (told_stop nothing (listing_view c.loop-line.listing) c.args.text.now c.loop-line.rest.now c.in-Some.line.now c.in-Some.after.now 2 c.loop-line.number _
+    rw (p.1, p.2) (told_stop nothing
+    (listing_view c.loop-line.listing) c.args.text.now c.loop-line.rest.now c.in-Some.line.now c.in-Some.after.now 2 c.loop-line.number _
     c.loop-line.invariant.passed c.in-Some.ensures.found.0 (inl (refl, c.in-Some.ensures.found.1)) c.in_err-add_line.ensures.fault)
 
 pub loop-line-smaller : goal.loop-line-smaller
@@ -24,7 +25,8 @@ pub loop-line-preserved : goal.loop-line-preserved
 loop-line-preserved c =
     let shorter = cut_shorter 10 c.loop-line.rest.now c.in-Some.line.now c.in-Some.after.now c.in-Some.ensures.found.0 in
     record {
-      passed = passes_more nothing (listing_view c.loop-line.listing) (listing_view c.add_line.new.self) c.args.text.now c.loop-line.rest.now c.in-Some.line.now c.in-Some.after.now 2 c.loop-line.number
+      passed = passes_more nothing (listing_view c.loop-line.listing)
+          (listing_view c.add_line.new.self) c.args.text.now c.loop-line.rest.now c.in-Some.line.now c.in-Some.after.now 2 c.loop-line.number
           c.loop-line.invariant.passed c.in-Some.ensures.found.0 c.in_ok-add_line.ensures.added;
       room = omega (arith, shorter);
     }

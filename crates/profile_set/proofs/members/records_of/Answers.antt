@@ -2,6 +2,7 @@ use Rattle.std.proofs.Common.{◌∙◌, ap, sym, refl, inr}
 use Rattle.csv.specs.Reading.{Reached, strip_bom, builder_is_flexible}
 use Rattle.profile_set.proofs.members.records_of.Goals as goal
 
+-- the reader is new, so it has read nothing of the text behind the mark
 pub returns : goal.returns
 unfolding Reached
 returns c =

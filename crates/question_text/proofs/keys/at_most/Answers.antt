@@ -15,4 +15,5 @@ returns-in_ok-from_str-in-Ok c =
     let list = c.args.list.now in
     let long = listed_long list.items in
     rw c.in_ok-from_str-in-Ok.ensures.ok
-    (too_long c.args.most c.args.path.now (list_of (items_view list.items)) c.in-Ok.count (omega (arith, long, list.ok.0, c.in-Ok.ensures)) (omega (arith, c.in-Ok.ensures)))
+    (too_long c.args.most c.args.path.now (list_of (items_view list.items)) c.in-Ok.count (omega (arith, long, list.ok.0, c.in-Ok.ensures))
+    (omega (arith, c.in-Ok.ensures)))

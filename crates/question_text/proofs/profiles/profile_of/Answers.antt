@@ -40,7 +40,8 @@ returns-in_err-set c =
     let t = kind_seen (λ m. table_view m.now) c.as_table.result (as_table d) path c.in_ok-table.table c.as_table.ensures c.in_ok-table.ensures in
     stops _ (role_set names (key_of path (codes "roles")) list) (a_profile names path d) _ _ c.from_residual-in_err-set.ensures.1
     (λ fault h. inr (table, t, inr (tt, c.in_ok-knows_only.ensures, inr (list, c.in_ok-list.ensures, inl (fault, h, refl)))))
-    (subst (λ (p : List ℕ). IsToldBy (role_set names p list) (fault_of c.in_err-set.field-0.0)) (c.as_str.ensures.value ∙ c.in_ok-key.ensures) c.in_err-set.ensures)
+    (subst (λ (p : List ℕ). IsToldBy (role_set names p list) (fault_of c.in_err-set.field-0.0))
+    (c.as_str.ensures.value ∙ c.in_ok-key.ensures) c.in_err-set.ensures)
 
 pub returns-in_err-most : goal.returns-in_err-most
 returns-in_err-most c =
@@ -52,7 +53,11 @@ returns-in_err-most c =
     let t = kind_seen (λ m. table_view m.now) c.as_table.result (as_table d) path c.in_ok-table.table c.as_table.ensures c.in_ok-table.ensures in
     let set = subst (λ (p : List ℕ). role_set names p list (Ok c.in_ok-set.set)) (c.as_str.ensures.value ∙ c.in_ok-key.ensures) c.in_ok-set.ensures in
     stops _ (optional as_most None table path (codes "most")) (a_profile names path d) _ _ c.from_residual-in_err-most.ensures.1
-    (λ fault h. inr (table, t, inr (tt, c.in_ok-knows_only.ensures, inr (list, c.in_ok-list.ensures, inr (c.in_ok-set.set, set, inl (fault, h, refl)))))) c.in_err-most.ensures
+    (λ fault h. inr (
+      table,
+      t,
+      inr (tt, c.in_ok-knows_only.ensures, inr (list, c.in_ok-list.ensures, inr (c.in_ok-set.set, set, inl (fault, h, refl)))),
+    )) c.in_err-most.ensures
 
 pub returns : goal.returns
 returns c =
@@ -63,4 +68,12 @@ returns c =
     let list = list_of (array_view c.in_ok-list.list.now) in
     let t = kind_seen (λ m. table_view m.now) c.as_table.result (as_table d) path c.in_ok-table.table c.as_table.ensures c.in_ok-table.ensures in
     let set = subst (λ (p : List ℕ). role_set names p list (Ok c.in_ok-set.set)) (c.as_str.ensures.value ∙ c.in_ok-key.ensures) c.in_ok-set.ensures in
-    inr (table, t, inr (tt, c.in_ok-knows_only.ensures, inr (list, c.in_ok-list.ensures, inr (c.in_ok-set.set, set, inr (c.in_ok-most.most, c.in_ok-most.ensures, refl)))))
+    inr (
+      table,
+      t,
+      inr (
+        tt,
+        c.in_ok-knows_only.ensures,
+        inr (list, c.in_ok-list.ensures, inr (c.in_ok-set.set, set, inr (c.in_ok-most.most, c.in_ok-most.ensures, refl))),
+      ),
+    )

@@ -15,4 +15,8 @@ returns-in_err-separate c =
     (λ fault h. inr (tt, c.in_ok-knows_only.ensures, inr (c.in_ok-version.version, c.in_ok-version.ensures, inl (fault, h, refl)))) c.in_err-separate.ensures
 
 pub returns : goal.returns
-returns c = inr (tt, c.in_ok-knows_only.ensures, inr (c.in_ok-version.version, c.in_ok-version.ensures, inr (c.in_ok-separate.separate, c.in_ok-separate.ensures, refl)))
+returns c = inr (
+  tt,
+  c.in_ok-knows_only.ensures,
+  inr (c.in_ok-version.version, c.in_ok-version.ensures, inr (c.in_ok-separate.separate, c.in_ok-separate.ensures, refl)),
+)

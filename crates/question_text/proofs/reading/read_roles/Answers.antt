@@ -30,11 +30,23 @@ returns-in_err-exclusive c =
     let names = c.in_ok-named.named.names in
     let admins = c.in_ok-admins.admins in
     stops roles_view (exclusive_pairs head.version head.separate admins names table) (the_roles head table) _ _ c.from_residual-in_err-exclusive.ensures.1
-    (λ fault h. inr (names, c.in_ok-named.ensures.names, inr (admins, c.in_ok-admins.ensures, inr (c.in_ok-order.order.edges, c.in_ok-order.ensures.edges, inl (fault, h, refl)))))
+    (λ fault h. inr (
+      names,
+      c.in_ok-named.ensures.names,
+      inr (admins, c.in_ok-admins.ensures, inr (c.in_ok-order.order.edges, c.in_ok-order.ensures.edges, inl (fault, h, refl))),
+    ))
     (rw c.in_ok-order.ensures.names at c.in_err-exclusive.ensures)
 
 pub returns : goal.returns
 returns c =
     let pairs = rw c.in_ok-order.ensures.names at c.in_ok-exclusive.ensures in
     rw c.in_ok-order.ensures.names
-    (inr (c.in_ok-named.named.names, c.in_ok-named.ensures.names, inr (c.in_ok-admins.admins, c.in_ok-admins.ensures, inr (c.in_ok-order.order.edges, c.in_ok-order.ensures.edges, inr (c.in_ok-exclusive.exclusive.items, pairs, refl)))))
+    (inr (
+      c.in_ok-named.named.names,
+      c.in_ok-named.ensures.names,
+      inr (
+        c.in_ok-admins.admins,
+        c.in_ok-admins.ensures,
+        inr (c.in_ok-order.order.edges, c.in_ok-order.ensures.edges, inr (c.in_ok-exclusive.exclusive.items, pairs, refl)),
+      ),
+    ))

@@ -31,7 +31,8 @@ returns-in_err-profiles c =
     let roles = roles_view c.in_ok-roles.roles in
     let rules = rules_view c.in_ok-rules.rules in
     stops plain_of (profiles roles.names table) (question c.args.need_goal table) _ _ c.from_residual-in_err-profiles.ensures.1
-    (λ fault h. inr (head, c.in_ok-head.ensures, inr (roles, c.in_ok-roles.ensures, inr (rules, c.in_ok-rules.ensures, inl (fault, h, refl))))) c.in_err-profiles.ensures
+    (λ fault h. inr (head, c.in_ok-head.ensures, inr (roles, c.in_ok-roles.ensures, inr (rules, c.in_ok-rules.ensures, inl (fault, h, refl)))))
+    c.in_err-profiles.ensures
 
 pub returns-in_err-goal : goal.returns-in_err-goal
 returns-in_err-goal c =
@@ -40,13 +41,24 @@ returns-in_err-goal c =
     let roles = roles_view c.in_ok-roles.roles in
     let rules = rules_view c.in_ok-rules.rules in
     stops plain_of (the_goal c.args.need_goal roles.names table) (question c.args.need_goal table) _ _ c.from_residual-in_err-goal.ensures.1
-    (λ fault h. inr (head, c.in_ok-head.ensures, inr (roles, c.in_ok-roles.ensures, inr (rules, c.in_ok-rules.ensures, inr (c.in_ok-profiles.profiles.items, c.in_ok-profiles.ensures, inl (fault, h, refl)))))) c.in_err-goal.ensures.goal
+    (λ fault h. inr (
+      head,
+      c.in_ok-head.ensures,
+      inr (
+        roles,
+        c.in_ok-roles.ensures,
+        inr (rules, c.in_ok-rules.ensures, inr (c.in_ok-profiles.profiles.items, c.in_ok-profiles.ensures, inl (fault, h, refl))),
+      ),
+    )) c.in_err-goal.ensures.goal
 
 pub policy_of-requires-clause-known : goal.policy_of-requires-clause-known
-policy_of-requires-clause-known c = policy_read (head_view c.in_ok-head.head) (table_view c.args.table.now) c.in_ok-roles.roles c.in_ok-rules.rules c.in_ok-roles.ensures c.in_ok-rules.ensures
+policy_of-requires-clause-known c =
+    policy_read (head_view c.in_ok-head.head)
+    (table_view c.args.table.now) c.in_ok-roles.roles c.in_ok-rules.rules c.in_ok-roles.ensures c.in_ok-rules.ensures
 
 pub policy_of-requires-clause-few : goal.policy_of-requires-clause-few
-policy_of-requires-clause-few c = few_read (head_view c.in_ok-head.head) (table_view c.args.table.now) c.in_ok-roles.roles c.in_ok-rules.rules c.in_ok-roles.ensures c.in_ok-rules.ensures
+policy_of-requires-clause-few c =
+    few_read (head_view c.in_ok-head.head) (table_view c.args.table.now) c.in_ok-roles.roles c.in_ok-rules.rules c.in_ok-roles.ensures c.in_ok-rules.ensures
 
 pub returns : goal.returns
 returns c =
@@ -54,4 +66,16 @@ returns c =
     let roles = roles_view c.in_ok-roles.roles in
     let rules = rules_view c.in_ok-rules.rules in
     rw c.policy_of.ensures
-    (inr (head, c.in_ok-head.ensures, inr (roles, c.in_ok-roles.ensures, inr (rules, c.in_ok-rules.ensures, inr (c.in_ok-profiles.profiles.items, c.in_ok-profiles.ensures, inr (map term_of c.in_ok-goal.goal.items, c.in_ok-goal.ensures.goal, refl))))))
+    (inr (
+      head,
+      c.in_ok-head.ensures,
+      inr (
+        roles,
+        c.in_ok-roles.ensures,
+        inr (
+          rules,
+          c.in_ok-rules.ensures,
+          inr (c.in_ok-profiles.profiles.items, c.in_ok-profiles.ensures, inr (map term_of c.in_ok-goal.goal.items, c.in_ok-goal.ensures.goal, refl)),
+        ),
+      ),
+    ))

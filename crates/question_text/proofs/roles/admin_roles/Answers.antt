@@ -7,5 +7,6 @@ use Rattle.question_text.proofs.roles.admin_roles.Goals as goal
 
 pub returns-in-Some : goal.returns-in-Some
 returns-in-Some c =
-    answers_on (λ set. set) (admin_list c.args.separate (table_view c.args.table.now)) (role_set c.args.order.now.names (codes "admin_roles")) (list_of (array_view c.in-Some.list.now)) c.role_set.result
+    answers_on (λ set. set) (admin_list c.args.separate (table_view c.args.table.now)) (role_set c.args.order.now.names (codes "admin_roles"))
+    (list_of (array_view c.in-Some.list.now)) c.role_set.result
     (rw c.in-Some.is at c.in_ok-list.ensures) c.role_set.ensures

@@ -15,5 +15,6 @@ returns-in_err-names-clause-names c =
 
 pub returns-clause-names : goal.returns-clause-names
 returns-clause-names c =
-    order_speaks (λ order. order.names) (table_view c.args.table.now) (list_of (array_view c.in_ok-list.list.now)) (texts c.in_ok-names.names.items) c.order_of.result
+    order_speaks (λ order. order.names) (table_view c.args.table.now) (list_of (array_view c.in_ok-list.list.now))
+    (texts c.in_ok-names.names.items) c.order_of.result
     c.in_ok-list.ensures c.in_ok-names.ensures (rw c.new.ensures.items at c.order_of.ensures.answer) c.order_of.ensures.names

@@ -1,6 +1,6 @@
 use Rattle.std.proofs.Common.{ℕ, List, ◌≡◌, take, Ok}
 use Rattle.toml.specs.View.{array_view}
-use Rattle.policy_text.specs.Runs.{set_of}
+use Rattle.cond_text.specs.Named.{set_of}
 use Rattle.question_text.specs.Keys.{entries, list_of}
 use Rattle.question_text.specs.Roles.{a_role}
 use Rattle.question_text.proofs.roles.role_set.Given as goal

@@ -1,5 +1,5 @@
 use Rattle.std.proofs.Common.{refl, inl, inr}
-use Rattle.policy_text.specs.Views.{range_view}
+use Rattle.cond_text.specs.Ranges.{range_view}
 use Rattle.question_text.specs.Roles.{role_named}
 use Rattle.question_text.specs.Tables.{a_range}
 use Rattle.question_text.proofs.TableLemmas.{stops}
@@ -19,10 +19,15 @@ returns-in_err-high-clause-answers c =
     let found = c.in-Some.ensures.found in
     let names = c.args.order.now.names in
     stops _ (role_named names c.args.path.now written.high) (a_range names c.args.path.now c.args.text.now) _ _ c.from_residual-in_err-high.ensures.1
-    (λ fault h. inr (written, inl (written, found.0, found.1, refl), inr (c.in_ok-low.low, c.in_ok-low.ensures.role, inl (fault, h, refl)))) c.in_err-high.ensures.role
+    (λ fault h. inr (written, inl (written, found.0, found.1, refl), inr (c.in_ok-low.low, c.in_ok-low.ensures.role, inl (fault, h, refl))))
+    c.in_err-high.ensures.role
 
 pub returns-clause-answers : goal.returns-clause-answers
 returns-clause-answers c =
     let written = range_view c.in-Some.named in
     let found = c.in-Some.ensures.found in
-    inr (written, inl (written, found.0, found.1, refl), inr (c.in_ok-low.low, c.in_ok-low.ensures.role, inr (c.in_ok-high.high, c.in_ok-high.ensures.role, refl)))
+    inr (
+      written,
+      inl (written, found.0, found.1, refl),
+      inr (c.in_ok-low.low, c.in_ok-low.ensures.role, inr (c.in_ok-high.high, c.in_ok-high.ensures.role, refl)),
+    )

@@ -27,7 +27,8 @@ returns-in_err-revoke_tests c =
     let d = view c.args.value.now in
     let rule = table_view c.in_ok-table.table.now in
     let t = kind_seen (λ m. table_view m.now) c.as_table.result (as_table d) path c.in_ok-table.table c.as_table.ensures c.in_ok-table.ensures in
-    stops _ (not_mixed_rule separate admins c.in_ok-rule.rule.admin c.in_ok-rule.rule.range None path) (a_revoke_rule separate admins names path d) _ _ c.from_residual-in_err-revoke_tests.ensures.1
+    stops _ (not_mixed_rule separate admins c.in_ok-rule.rule.admin c.in_ok-rule.rule.range None path)
+    (a_revoke_rule separate admins names path d) _ _ c.from_residual-in_err-revoke_tests.ensures.1
     (λ fault h. inr (rule, t, inr (c.in_ok-rule.rule, c.in_ok-rule.ensures, inl (fault, h, refl)))) c.in_err-revoke_tests.ensures
 
 pub returns : goal.returns

@@ -1,7 +1,7 @@
 use Rattle.std.proofs.Common.{refl, inl, inr}
 use Rattle.toml.specs.Data.{as_table}
 use Rattle.toml.specs.View.{table_view, view}
-use Rattle.policy_text.specs.Runs.{plain_rule}
+use Rattle.arbac_policy.specs.PlainRules.{plain_rule}
 use Rattle.question_text.specs.Tables.{assign_parts, assign_tests, an_assign_rule}
 use Rattle.question_text.proofs.KeyLemmas.{kind_seen}
 use Rattle.question_text.proofs.TableLemmas.{stops}
@@ -28,7 +28,8 @@ returns-in_err-assign_tests c =
     let d = view c.args.value.now in
     let rule = table_view c.in_ok-table.table.now in
     let t = kind_seen (λ m. table_view m.now) c.as_table.result (as_table d) path c.in_ok-table.table c.as_table.ensures c.in_ok-table.ensures in
-    stops _ (assign_tests separate admins (plain_rule c.in_ok-rule.rule) path) (an_assign_rule separate admins names path d) _ _ c.from_residual-in_err-assign_tests.ensures.1
+    stops _ (assign_tests separate admins (plain_rule c.in_ok-rule.rule) path)
+    (an_assign_rule separate admins names path d) _ _ c.from_residual-in_err-assign_tests.ensures.1
     (λ fault h. inr (rule, t, inr (plain_rule c.in_ok-rule.rule, c.in_ok-rule.ensures.answers, inl (fault, h, refl)))) c.in_err-assign_tests.ensures
 
 pub returns : goal.returns

@@ -18,7 +18,16 @@ returns-in_err-range-clause-answers c =
     let rule = table_view c.args.rule.now in
     let path = c.args.path.now in
     stops _ (the_range names rule path) (assign_parts names rule path) _ _ c.from_residual-in_err-range.ensures.1
-    (λ fault h. inr (tt, c.in_ok-knows_only.ensures, inr (c.in_ok-admin.admin, c.in_ok-admin.ensures, inr (_, c.in_ok-cond.ensures.answers, inl (fault, h, refl))))) c.in_err-range.ensures
+    (λ fault h. inr (
+      tt,
+      c.in_ok-knows_only.ensures,
+      inr (c.in_ok-admin.admin, c.in_ok-admin.ensures, inr (_, c.in_ok-cond.ensures.answers, inl (fault, h, refl))),
+    )) c.in_err-range.ensures
 
 pub returns-clause-answers : goal.returns-clause-answers
-returns-clause-answers c = inr (tt, c.in_ok-knows_only.ensures, inr (c.in_ok-admin.admin, c.in_ok-admin.ensures, inr (_, c.in_ok-cond.ensures.answers, inr (c.in_ok-range.range, c.in_ok-range.ensures, refl))))
+returns-clause-answers c =
+    inr (
+      tt,
+      c.in_ok-knows_only.ensures,
+      inr (c.in_ok-admin.admin, c.in_ok-admin.ensures, inr (_, c.in_ok-cond.ensures.answers, inr (c.in_ok-range.range, c.in_ok-range.ensures, refl))),
+    )

@@ -5,8 +5,8 @@ use Rattle.std.specs.Borrow.{Bor}
 use Rattle.std.specs.declared.alloc.Global.{Global}
 use Rattle.toml.specs.declared.value.Value.{Value}
 use Rattle.toml.specs.View.{table_view, array_view}
-use Rattle.policy_text.specs.declared.TheConstants.{MOST_RULES}
-use Rattle.policy_text.specs.Runs.{plain_rule}
+use Rattle.arbac_policy.specs.declared.TheConstants.{MOST_RULES}
+use Rattle.arbac_policy.specs.PlainRules.{plain_rule}
 use Rattle.question_text.specs.Keys.{list_of, as_list, optional}
 use Rattle.question_text.specs.Views.{entries_of}
 use Rattle.question_text.specs.Tables.{an_assign_rule}
@@ -17,25 +17,40 @@ use Rattle.question_text.proofs.rules.assign_rules.Goals as goal
 
 pub returns-in_err-at_most-clause-rules : goal.returns-in_err-at_most-clause-rules
 returns-in_err-at_most-clause-rules c =
-    tables_stop (λ rules. map plain_rule rules.items) MOST_RULES (an_assign_rule c.args.separate c.args.admins.now c.args.order.now.names) (table_view c.args.table.now) c.args.key.now
-    (list_of (array_view c.in-Some.list.now)) _ c.in_err-at_most.field-0.0 (subst (λ (o : Option (Bor (Vec Value Global))). optional as_list [] (table_view c.args.table.now) [] c.args.key.now (Ok (entries_of o))) c.in-Some.is c.in_ok-list.ensures) c.from_residual-in_err-at_most.ensures.1 c.in_err-at_most.ensures
+    tables_stop (λ rules. map plain_rule rules.items) MOST_RULES (an_assign_rule c.args.separate c.args.admins.now c.args.order.now.names)
+    (table_view c.args.table.now) c.args.key.now
+    (list_of (array_view c.in-Some.list.now)) _ c.in_err-at_most.field-0.0
+    (subst (λ (o : Option (Bor (Vec Value Global))). optional as_list [] (table_view c.args.table.now) [] c.args.key.now
+    (Ok (entries_of o))) c.in-Some.is c.in_ok-list.ensures) c.from_residual-in_err-at_most.ensures.1 c.in_err-at_most.ensures
 
 pub returns-clause-rules : goal.returns-clause-rules
 returns-clause-rules c =
-    tables_end (λ rules. map plain_rule rules.items) MOST_RULES (an_assign_rule c.args.separate c.args.admins.now c.args.order.now.names) (table_view c.args.table.now) c.args.key.now
-    (list_of (array_view c.in-Some.list.now)) c.each_entry.result (subst (λ (o : Option (Bor (Vec Value Global))). optional as_list [] (table_view c.args.table.now) [] c.args.key.now (Ok (entries_of o))) c.in-Some.is c.in_ok-list.ensures) c.in_ok-at_most.ensures
-    (list_seen plain_rule (an_assign_rule c.args.separate c.args.admins.now c.args.order.now.names) c.args.key.now (list_of (array_view c.in-Some.list.now)) c.each_entry.result c.each_entry.ensures)
+    tables_end (λ rules. map plain_rule rules.items) MOST_RULES (an_assign_rule c.args.separate c.args.admins.now c.args.order.now.names)
+    (table_view c.args.table.now) c.args.key.now
+    (list_of (array_view c.in-Some.list.now)) c.each_entry.result
+    (subst (λ (o : Option (Bor (Vec Value Global))). optional as_list [] (table_view c.args.table.now) [] c.args.key.now
+    (Ok (entries_of o))) c.in-Some.is c.in_ok-list.ensures) c.in_ok-at_most.ensures
+    (list_seen plain_rule (an_assign_rule c.args.separate c.args.admins.now c.args.order.now.names) c.args.key.now
+    (list_of (array_view c.in-Some.list.now)) c.each_entry.result c.each_entry.ensures)
 
 pub returns-clause-known : goal.returns-clause-known
 returns-clause-known c =
     assigns_known c.args.separate c.args.admins.now c.args.order.now.names (table_view c.args.table.now) c.args.key.now c.each_entry.result
-    (tables_end (λ rules. map plain_rule rules.items) MOST_RULES (an_assign_rule c.args.separate c.args.admins.now c.args.order.now.names) (table_view c.args.table.now) c.args.key.now
-    (list_of (array_view c.in-Some.list.now)) c.each_entry.result (subst (λ (o : Option (Bor (Vec Value Global))). optional as_list [] (table_view c.args.table.now) [] c.args.key.now (Ok (entries_of o))) c.in-Some.is c.in_ok-list.ensures) c.in_ok-at_most.ensures
-    (list_seen plain_rule (an_assign_rule c.args.separate c.args.admins.now c.args.order.now.names) c.args.key.now (list_of (array_view c.in-Some.list.now)) c.each_entry.result c.each_entry.ensures))
+    (tables_end (λ rules. map plain_rule rules.items) MOST_RULES (an_assign_rule c.args.separate c.args.admins.now c.args.order.now.names)
+    (table_view c.args.table.now) c.args.key.now
+    (list_of (array_view c.in-Some.list.now)) c.each_entry.result
+    (subst (λ (o : Option (Bor (Vec Value Global))). optional as_list [] (table_view c.args.table.now) [] c.args.key.now
+    (Ok (entries_of o))) c.in-Some.is c.in_ok-list.ensures) c.in_ok-at_most.ensures
+    (list_seen plain_rule (an_assign_rule c.args.separate c.args.admins.now c.args.order.now.names) c.args.key.now
+    (list_of (array_view c.in-Some.list.now)) c.each_entry.result c.each_entry.ensures))
 
 pub returns-clause-few : goal.returns-clause-few
 returns-clause-few c =
     assigns_few c.args.separate c.args.admins.now c.args.order.now.names (table_view c.args.table.now) c.args.key.now c.each_entry.result
-    (tables_end (λ rules. map plain_rule rules.items) MOST_RULES (an_assign_rule c.args.separate c.args.admins.now c.args.order.now.names) (table_view c.args.table.now) c.args.key.now
-    (list_of (array_view c.in-Some.list.now)) c.each_entry.result (subst (λ (o : Option (Bor (Vec Value Global))). optional as_list [] (table_view c.args.table.now) [] c.args.key.now (Ok (entries_of o))) c.in-Some.is c.in_ok-list.ensures) c.in_ok-at_most.ensures
-    (list_seen plain_rule (an_assign_rule c.args.separate c.args.admins.now c.args.order.now.names) c.args.key.now (list_of (array_view c.in-Some.list.now)) c.each_entry.result c.each_entry.ensures))
+    (tables_end (λ rules. map plain_rule rules.items) MOST_RULES (an_assign_rule c.args.separate c.args.admins.now c.args.order.now.names)
+    (table_view c.args.table.now) c.args.key.now
+    (list_of (array_view c.in-Some.list.now)) c.each_entry.result
+    (subst (λ (o : Option (Bor (Vec Value Global))). optional as_list [] (table_view c.args.table.now) [] c.args.key.now
+    (Ok (entries_of o))) c.in-Some.is c.in_ok-list.ensures) c.in_ok-at_most.ensures
+    (list_seen plain_rule (an_assign_rule c.args.separate c.args.admins.now c.args.order.now.names) c.args.key.now
+    (list_of (array_view c.in-Some.list.now)) c.each_entry.result c.each_entry.ensures))

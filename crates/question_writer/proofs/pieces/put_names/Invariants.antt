@@ -6,4 +6,5 @@ use Rattle.question_writer.proofs.PieceLemmas.{joined_from}
 use Rattle.question_writer.proofs.pieces.put_names.Given as goal
 
 abbrev pub invariant-loop-role : goal.invariant-loop-role
-invariant-loop-role l = l.text.items ++ joined_from (quoted) l.role (drop l.role (l.order.names)) ≡ l.initial.text.items ++ join_by (quoted) (codes ", ") (l.order.names)
+invariant-loop-role l =
+    l.text.items ++ joined_from (quoted) l.role (drop l.role (l.order.names)) ≡ l.initial.text.items ++ join_by (quoted) (codes ", ") (l.order.names)

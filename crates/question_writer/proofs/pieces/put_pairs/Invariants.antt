@@ -6,4 +6,6 @@ use Rattle.question_writer.proofs.PieceLemmas.{joined_from}
 use Rattle.question_writer.proofs.pieces.put_pairs.Given as goal
 
 abbrev pub invariant-loop-place : goal.invariant-loop-place
-invariant-loop-place l = l.text.items ++ joined_from (pair_text l.order.names) l.place (drop l.place (l.pairs)) ≡ l.initial.text.items ++ join_by (pair_text l.order.names) (codes ", ") (l.pairs)
+invariant-loop-place l =
+    l.text.items ++ joined_from (pair_text l.order.names) l.place (drop l.place (l.pairs)) ≡ l.initial.text.items ++ join_by
+    (pair_text l.order.names) (codes ", ") (l.pairs)

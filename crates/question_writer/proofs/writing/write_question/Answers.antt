@@ -8,5 +8,6 @@ pub returns : goal.returns
 returns c =
     let q = c.args.question.now in
     let whole : c.put_tables.new.text.items ≡ question_text (plain_of q) =
-    c.in_ok-put_tables.ensures ∙ ap (λ t. t ++ tables_text (plain_of q)) (c.in_ok-put_keys.ensures ∙ ap (λ t. t ++ keys_text (plain_of q)) c.new-text.ensures.items) in
+    c.in_ok-put_tables.ensures
+    ∙ ap (λ t. t ++ tables_text (plain_of q)) (c.in_ok-put_keys.ensures ∙ ap (λ t. t ++ keys_text (plain_of q)) c.new-text.ensures.items) in
     record { text = whole; back = bytes_back q c.put_tables.new.text.items c.requires whole }

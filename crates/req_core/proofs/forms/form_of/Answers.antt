@@ -1,7 +1,8 @@
-use Rattle.std.proofs.Common.{◌≡◌, ◌-◌, ◌∙◌, ap, sym, arith, Some, drop}
+use Rattle.std.proofs.Common.{◌≡◌, ◌-◌, ◌∙◌, ap, sym, subst, arith, Some, drop}
 use Rattle.std.specs.Prelude.{slice_get}
 use Rattle.list_words.proofs.GetLemmas.{get_at}
-use Rattle.req_core.specs.Raw.{needs_of}
+use Rattle.arbac_laws.specs.NormalForms.{AreFormPlaces}
+use Rattle.arbac_laws.specs.Views.{needs_of}
 use Rattle.req_core.proofs.FormLemmas.{form_none, form_normal, one_user, places_below}
 use Rattle.req_core.proofs.forms.form_of.Goals as goal
 
@@ -32,3 +33,9 @@ loop-at-preserved c =
 
 pub invariant_of-result : goal.invariant_of-result
 invariant_of-result c = form_normal (needs_of (drop c.loop-at.at c.args.raw.now)) c.loop-at.users.items c.loop-at.places.items c.loop-at.invariant
+
+-- at the end all users are gone through
+pub returns-clause-places : goal.returns-clause-places
+returns-clause-places c =
+    let none : c.loop-at.at ≡ 0 = omega (arith, c.loop-at-test.false) in
+    subst (λ n. AreFormPlaces (needs_of (drop n c.args.raw.now)) c.loop-at.users.items c.loop-at.places.items) none c.loop-at.invariant.placed.stand

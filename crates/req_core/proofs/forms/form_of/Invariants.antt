@@ -1,5 +1,5 @@
 use Rattle.std.proofs.Common.{drop}
-use Rattle.req_core.specs.Raw.{needs_of}
+use Rattle.arbac_laws.specs.Views.{needs_of}
 use Rattle.req_core.proofs.FormLemmas.{IsForm}
 use Rattle.req_core.proofs.forms.form_of.Given as goal
 

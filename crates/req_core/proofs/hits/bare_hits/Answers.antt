@@ -5,7 +5,7 @@ use Rattle.role_order.specs.Roles.{less_roles}
 use Rattle.list_words.proofs.GetLemmas.{get_at}
 use Rattle.arbac_laws.specs.NormalForms.{bare_hits as bare}
 use Rattle.arbac_laws.specs.PreImages.{is_empty}
-use Rattle.req_core.specs.Raw.{need_of}
+use Rattle.arbac_laws.specs.Views.{need_of}
 use Rattle.req_core.proofs.HitLemmas.{within_none, bare_stops}
 use Rattle.req_core.proofs.hits.bare_hits.Goals as goal
 

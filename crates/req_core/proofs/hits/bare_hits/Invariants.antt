@@ -1,4 +1,4 @@
-use Rattle.req_core.specs.Raw.{need_of}
+use Rattle.arbac_laws.specs.Views.{need_of}
 use Rattle.req_core.proofs.HitLemmas.{AreBare}
 use Rattle.req_core.proofs.hits.bare_hits.Given as goal
 

@@ -12,6 +12,7 @@ loop-at-preserved c =
     let hits = c.args.hits.now in
     let at = c.loop-at.at in
     let hit = c.index-hits-at.result in
-    let here : slice_get hits (at - 1) ≡ Some hit = get_at hits (at - 1) hit (omega (arith, c.loop-at.auto.at, c.loop-at-test.true)) ∙ ap Some (sym c.index-hits-at.is) in
+    let here : slice_get hits (at - 1) ≡ Some hit =
+    get_at hits (at - 1) hit (omega (arith, c.loop-at.auto.at, c.loop-at-test.true)) ∙ ap Some (sym c.index-hits-at.is) in
     c.in_ok-add_least.ensures ∙ ap (λ list. cond (list_any (λ other. is_less other hit) hits) list (insert_once set_before hit list)) c.loop-at.invariant
     ∙ sorted_step set_before (λ hit. list_any (λ other. is_less other hit) hits) hits (at - 1) at hit (omega (arith, c.loop-at-test.true)) here

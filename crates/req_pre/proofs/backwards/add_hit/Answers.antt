@@ -2,7 +2,7 @@ use Rattle.std.proofs.Common.{◌≡◌, ◌∙◌, ap, sym, arith, Some}
 use Rattle.std.specs.Prelude.{slice_get}
 use Rattle.list_words.proofs.GetLemmas.{get_at}
 use Rattle.arbac_laws.specs.PreImages.{add_hit as and_hit}
-use Rattle.req_core.specs.Raw.{needs_of}
+use Rattle.arbac_laws.specs.Views.{needs_of}
 use Rattle.req_pre.proofs.BackwardLemmas.{change_past, change_raw, length_raw}
 use Rattle.req_pre.proofs.backwards.add_hit.Goals as goal
 

@@ -1,5 +1,5 @@
 use Rattle.std.proofs.Common.{◌≡◌, take}
-use Rattle.req_core.specs.Raw.{needs_of}
+use Rattle.arbac_laws.specs.Views.{needs_of}
 use Rattle.req_pre.proofs.backwards.raw_users.Given as goal
 
 abbrev pub invariant-loop-user : goal.invariant-loop-user

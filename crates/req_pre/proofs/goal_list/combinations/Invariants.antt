@@ -1,8 +1,8 @@
 use Rattle.std.proofs.Common.{◌≡◌, map, drop}
 use Rattle.arbac_policy.specs.Truth.{term_of}
 use Rattle.arbac_laws.specs.Goals.{goal_requirements}
-use Rattle.req_pre.specs.Combining.{raws_of}
+use Rattle.req_pre.specs.Views.{lists_of}
 use Rattle.req_pre.proofs.goal_list.combinations.Given as goal
 
 abbrev pub invariant-loop-at : goal.invariant-loop-at
-invariant-loop-at l = raws_of l.all.items ≡ goal_requirements l.order (map term_of (drop l.at l.goal))
+invariant-loop-at l = lists_of l.all.items ≡ goal_requirements l.order (map term_of (drop l.at l.goal))

@@ -1,7 +1,8 @@
 use Rattle.std.proofs.Common.{ℕ, ◌≡◌, ◌<◌, map, take, Some}
 use Rattle.std.specs.Prelude.{slice_get}
 use Rattle.arbac_policy.specs.declared.rule.CanAssign.{CanAssign}
-use Rattle.req_pre.specs.Preparing.{conjuncts_of, lists_of, IsWide}
+use Rattle.req_pre.specs.Preparing.{conjuncts_of, IsWide}
+use Rattle.req_pre.specs.Views.{lists_of}
 use Rattle.req_pre.proofs.prepared.lists_for.Given as goal
 
 abbrev pub invariant-loop-place : goal.invariant-loop-place

@@ -1,26 +1,4 @@
-use Rattle.std.proofs.Common.{◌∙◌, ap, sym, arith, Some, subst}
-use Rattle.std.proofs.lemmas.Bool.{false≢true}
-use Rattle.list_words.specs.Lists.{Some_of, IsFirst}
-use Rattle.list_words.proofs.GetLemmas.{get_at, get_within, below_more}
-use Rattle.list_words.proofs.EachLemmas.{some_none}
-use Rattle.arbac_policy.specs.declared.rule.CanAssign.{CanAssign}
-use Rattle.arbac_policy.specs.Verdicts.{FitsRule}
 use Rattle.ura_core.proofs.searching.assign_fitting.Goals as goal
 
-pub returns-then-fits-clause-found : goal.returns-then-fits-clause-found
-returns-then-fits-clause-found c = subst (λ rules. IsFirst (λ (rule : CanAssign). FitsRule c.args.policy.now c.args.by.now c.args.role rule.range rule.admin) rules c.loop-place.place) c.assign_of-rule-items.ensures.rules record {
-  item = c.rule-item.result;
-  at = get_at c.assign_of-rule-items.result.now c.loop-place.place c.rule-item.result c.loop-place-test.true ∙ ap Some (sym c.rule-item.is);
-  holds = c.fits.ensures.0 c.if-fits.true;
-  none_before = c.loop-place.invariant;
-}
-
-pub loop-place-preserved : goal.loop-place-preserved
-loop-place-preserved c = below_more (λ (rule : CanAssign). FitsRule c.args.policy.now c.args.by.now c.args.role rule.range rule.admin → ⊥) c.assign_of-rule-items.result.now c.loop-place.place c.rule-item.result c.loop-place.invariant
-    (get_at c.assign_of-rule-items.result.now c.loop-place.place c.rule-item.result c.loop-place-test.true ∙ ap Some (sym c.rule-item.is))
-    (λ fits. false≢true (sym c.if-fits.false ∙ c.fits.ensures.1 fits))
-
-pub returns-clause-none : goal.returns-clause-none
-returns-clause-none c = λ some. some_none (λ (rule : CanAssign). FitsRule c.args.policy.now c.args.by.now c.args.role rule.range rule.admin) c.assign_of-rule-items.result.now
-    (λ k rule e. c.loop-place.invariant k rule (omega (arith, (get_within c.assign_of-rule-items.result.now k rule e).0)) e)
-    (subst (Some_of (λ (rule : CanAssign). FitsRule c.args.policy.now c.args.by.now c.args.role rule.range rule.admin)) (sym c.assign_of-rule-items.ensures.rules) some)
+pub returns-clause-found : goal.returns-clause-found
+returns-clause-found c = rw (← c.assign_of.ensures.rules) c.first_met.ensures.found

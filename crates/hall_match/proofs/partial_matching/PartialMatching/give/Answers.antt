@@ -1,13 +1,13 @@
 use Rattle.std.proofs.Common.{ℕ, ◌+◌, length, Some, arith}
 use Rattle.std.proofs.lemmas.List.{length-set, get_or_read}
-use Rattle.hall_match.proofs.HoldingLemmas.{holders-below, counted_give, inside_give}
+use Rattle.hall_match.proofs.HoldingLemmas.{holder_count-below, counted_give, inside_give}
 use Rattle.hall_match.proofs.partial_matching.PartialMatching.give.Goals as goal
 
 pub overflow_add-index_mut : goal.overflow_add-index_mut
 overflow_add-index_mut c =
     let held = c.args.self.now in
     let place : ℕ = c.args.place in
-    let below = holders-below held.given.items c.args.item place c.requires.item c.requires.free in
+    let below = holder_count-below held.given.items c.args.item place c.requires.item c.requires.free in
     let read = get_or_read held.used.items place c.index_mut-2.result.now c.requires.inside
     c.index_mut-2.ensures.value 0 in
     let count = held.counted place c.requires.inside in

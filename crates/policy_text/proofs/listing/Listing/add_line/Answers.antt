@@ -7,7 +7,8 @@ use Rattle.policy_text.proofs.listing.Listing.add_line.Goals as goal
 
 pub returns-in_default-clause-fault : goal.returns-in_default-clause-fault
 returns-in_default-clause-fault c =
-    formless (listing_view c.args.self.now) c.args.line.now c.args.number (sym c.in_ok-form.ensures ∙ ap (option_map form_of_line) c.in_default.is) (λ e. refl)
+    formless (listing_view c.args.self.now) c.args.line.now c.args.number (sym c.in_ok-form.ensures ∙ ap (option_map form_of_line) c.in_default.is)
+    (λ e. refl)
 
 pub add_form-requires-clause-kind : goal.add_form-requires-clause-kind
 add_form-requires-clause-kind c =

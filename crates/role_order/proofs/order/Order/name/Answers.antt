@@ -9,6 +9,7 @@ index-requires c = omega (arith, length_texts c.self.inside.names.items, ap (λ 
 
 pub returns : goal.returns
 returns c =
-    let few : c.args.role < length c.self.inside.names.items = omega (arith, length_texts c.self.inside.names.items, ap (λ (order : Graph). length order.names) c.self.view_is) in
+    let few : c.args.role < length c.self.inside.names.items = omega
+    (arith, length_texts c.self.inside.names.items, ap (λ (order : Graph). length order.names) c.self.view_is) in
     ap Some c.as_str.ensures.value ∙ sym (slice_get_texts c.self.inside.names.items c.args.role c.index.result.now few c.index.ensures)
     ∙ ap (λ (order : Graph). slice_get order.names c.args.role) c.self.view_is

@@ -1,10 +1,12 @@
-use Rattle.std.proofs.Common.{arith, false, sym, ◌&&◌, get_or, ap, ◌∙◌}
-use Rattle.role_order.proofs.PlacesLemmas.{places-filtered, has_role-places_0, rises-places}
+use Rattle.std.specs.Prelude.{bit_and}
+use Rattle.role_order.specs.declared.TheConstants.{MOST_ROLES}
+use Rattle.role_order.proofs.MaskLemmas.{common_set, rises-held_roles}
 use Rattle.role_order.proofs.role_set.RoleSet.common.Goals as goal
 
+-- the bits of both are set
 pub returns-clause-common : goal.returns-clause-common
-returns-clause-common c = rw (← c.self.view_is, ← c.other.view_is) (places-filtered _ c.self.inside.held c.loop-at.held (omega arith)
-    (λ k l. c.loop-at.invariant.both k (omega arith) ∙ ap (λ t. get_or c.self.inside.held k false && t) (sym (has_role-places_0 c.other.inside.held k))))
+returns-clause-common c = rw (← c.self.view_is, ← c.other.view_is)
+    (common_set c.self.inside.low c.self.inside.high c.other.inside.low c.other.inside.high c.self.invariant c.other.invariant)
 
 pub returns-clause-rises : goal.returns-clause-rises
-returns-clause-rises c = rises-places 0 c.loop-at.held
+returns-clause-rises c = rises-held_roles MOST_ROLES (bit_and c.self.inside.low c.other.inside.low) (bit_and c.self.inside.high c.other.inside.high)

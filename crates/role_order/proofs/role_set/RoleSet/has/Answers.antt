@@ -1,19 +1,22 @@
-use Rattle.std.proofs.Common.{◌≡◌, false, ltb, get_or, arith, sym, ◌∙◌}
-use Rattle.std.proofs.lemmas.Bool.Decides.{nat_tests}
-use Rattle.role_order.proofs.PlacesLemmas.{has_role-places_0, get_or_past, role_set_of}
+use Rattle.std.proofs.Common.{◌∙◌, sym}
+use Rattle.role_order.proofs.MaskLemmas.{has_role-masks, in_low, in_high, is_role_set}
 use Rattle.role_order.proofs.role_set.RoleSet.has.Goals as goal
 
-pub returns-then-role-lt-MOST_ROLES-clause-value : goal.returns-then-role-lt-MOST_ROLES-clause-value
-returns-then-role-lt-MOST_ROLES-clause-value c = rw (← c.self.view_is) (sym (has_role-places_0 c.self.inside.held c.args.role))
+-- the low mask has the role's bit
+pub returns-then-role-lt-MASK_BITS-clause-value : goal.returns-then-role-lt-MASK_BITS-clause-value
+returns-then-role-lt-MASK_BITS-clause-value c = rw (← c.self.view_is)
+    (c.has_bit.ensures ∙ sym (has_role-masks c.self.inside.low c.self.inside.high c.self.invariant c.args.role
+    ∙ in_low c.self.inside.low c.self.inside.high c.args.role c.if-role-lt-MASK_BITS.true))
 
-pub returns-else-role-lt-MOST_ROLES-clause-value : goal.returns-else-role-lt-MOST_ROLES-clause-value
-returns-else-role-lt-MOST_ROLES-clause-value c =
-    let no : ltb c.args.role 250 ≡ false = grind (arith, nat_tests) in
-    let past : get_or c.self.inside.held c.args.role false ≡ false = get_or_past c.self.inside.held c.args.role (omega arith) in
-    rw (← c.self.view_is, no) (sym past ∙ sym (has_role-places_0 c.self.inside.held c.args.role))
+-- the high mask has it
+pub returns-else-role-lt-MASK_BITS-clause-value : goal.returns-else-role-lt-MASK_BITS-clause-value
+returns-else-role-lt-MASK_BITS-clause-value c = rw (← c.self.view_is)
+    (c.has_bit-else-role-lt-MASK_BITS.ensures
+    ∙ sym (has_role-masks c.self.inside.low c.self.inside.high c.self.invariant c.args.role
+    ∙ in_high c.self.inside.low c.self.inside.high c.args.role c.if-role-lt-MASK_BITS.false))
 
-pub returns-then-role-lt-MOST_ROLES-clause-set : goal.returns-then-role-lt-MOST_ROLES-clause-set
-returns-then-role-lt-MOST_ROLES-clause-set c = rw (← c.self.view_is) (role_set_of c.self.inside.held c.self.invariant)
+pub returns-then-role-lt-MASK_BITS-clause-set : goal.returns-then-role-lt-MASK_BITS-clause-set
+returns-then-role-lt-MASK_BITS-clause-set c = rw (← c.self.view_is) (is_role_set c.self.inside.low c.self.inside.high c.self.invariant)
 
-pub returns-else-role-lt-MOST_ROLES-clause-set : goal.returns-else-role-lt-MOST_ROLES-clause-set
-returns-else-role-lt-MOST_ROLES-clause-set c = rw (← c.self.view_is) (role_set_of c.self.inside.held c.self.invariant)
+pub returns-else-role-lt-MASK_BITS-clause-set : goal.returns-else-role-lt-MASK_BITS-clause-set
+returns-else-role-lt-MASK_BITS-clause-set c = rw (← c.self.view_is) (is_role_set c.self.inside.low c.self.inside.high c.self.invariant)

@@ -1,9 +1,0 @@
-use Rattle.std.proofs.Common.{ℕ, ◌≡◌, ◌+◌, ◌∙◌, ap, sym, take, get_or, Some, arith, rules, List}
-use Rattle.policy_text.proofs.LineLemmas.{cut_found, take_rest}
-use Rattle.policy_text.proofs.lines.cut.Goals as goal
-
-pub returns-then-byte-sign : goal.returns-then-byte-sign
-returns-then-byte-sign c =
-    let here : get_or c.args.bytes.now c.loop-at.at 0 ≡ c.args.sign = search rules in
-    ap (λ (t : List ℕ). Some (take c.loop-at.at c.args.bytes.now, t)) (take_rest c.args.bytes.now (c.loop-at.at + 1))
-    ∙ sym (cut_found c.args.sign c.args.bytes.now c.loop-at.at (omega arith) c.loop-at.invariant here)

@@ -1,6 +1,0 @@
-use Rattle.hall_match.proofs.EdgeLemmas.{HaveItems}
-use Rattle.req_core.proofs.PairLemmas.{AreBelow}
-use Rattle.req_core.proofs.pairs.pairs_where.Given as goal
-
-abbrev pub invariant-loop-item : goal.invariant-loop-item
-invariant-loop-item g l = HaveItems l.pairs.items l.item (AreBelow (g.E.Edges.joins l.edges) l.places)

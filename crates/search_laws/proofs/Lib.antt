@@ -1,0 +1,11 @@
+pub mod DecideLemmas
+pub mod BeatLemmas
+pub mod CandidateLemmas
+pub mod RoundLemmas
+pub mod OutcomeLemmas
+pub mod PlanLemmas
+pub mod RowLemmas
+pub mod MonotonyLemmas
+pub mod AdminLemmas
+pub mod AlikeLemmas
+pub mod MarkLemmas
