@@ -1,19 +1,31 @@
 -- Words, and the form that they are of.
-use Rattle.std.proofs.Common.{ℕ, ◌≡◌, ◌∙◌, List, [], ◌∷◌, sym, ap}
+use Rattle.std.proofs.Common.{ℕ, ◌≡◌, ◌∙◌, List, [], ◌∷◌, refl, sym, Option, Some, None}
+use Rattle.std.specs.Prelude.{codes, if◌then◌else◌}
+use Rattle.std.specs.Str.{bytes_eq}
 use Rattle.desk_ports.specs.Shelves.{ShelfView}
 use Rattle.desk_ports.specs.Sinks.{SinkView}
 use Rattle.arbac_desk.specs.Commands.{Form, replay, AreWordsOf}
 use Rattle.arbac_desk.specs.ReplayAnswers.{IsReplayAnswer}
 use Rattle.arbac_desk.specs.CommandAnswers.{IsAnswerTo}
 
-abbrev second : List (List ℕ) → List ℕ
-second [] = []
-second (x ∷ []) = []
-second (x ∷ y ∷ xs) = y
+-- the form of two words, if there is one
+abbrev form_of_two : List ℕ → List ℕ → Option Form
+form_of_two word name = if bytes_eq word (codes "replay") then Some (replay name) else None
+
+-- the form of the words, if they are of one
+abbrev form_in : List (List ℕ) → Option Form
+form_in [] = None
+form_in (word ∷ []) = None
+form_in (word ∷ name ∷ []) = form_of_two word name
+form_in (word ∷ name ∷ more ∷ words) = None
+
+-- words that are of a form are read as that form
+read_as : (words : List (List ℕ)) (form : Form) → AreWordsOf words form → form_in words ≡ Some form
+read_as words (replay run) h = rw h.0 refl
 
 -- words are of one form at most
 pub one_form : (words : List (List ℕ)) (a b : Form) → AreWordsOf words a → AreWordsOf words b → a ≡ b
-one_form words (replay run) (replay other) a b = ap (λ ws. replay (second ws)) (sym a.0 ∙ b.0)
+one_form words a b h k = let same : Some a ≡ Some b = sym (read_as words a h) ∙ read_as words b k in cc
 
 -- the answer to words of the form `replay RUN`
 pub by_replay : (form : Form) (run : List ℕ) (shelf shelf' : ShelfView) (sink sink' : SinkView) (status : ℕ) → form ≡ replay run

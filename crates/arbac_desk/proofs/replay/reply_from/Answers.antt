@@ -4,6 +4,6 @@ use Rattle.arbac_desk.proofs.replay.reply_from.Goals as goal
 -- the reply to what was fetched is the reply to what the file holds
 pub returns-in-Ok-clause-reply : goal.returns-in-Ok-clause-reply
 returns-in-Ok-clause-reply g c =
-    fetched c.args.name.now c.in-Ok.bytes.items (g.H.Shelf.seen c.args.shelf.now) (g.H.Shelf.seen c.fetch.new.self) c.reply_to.result
+    fetched c.args.name.now c.in-Ok.bytes.items _ _ c.reply_to.result
     (record { counted = c.in-Ok.ensures.cause.same (λ e. cc); missed = c.in-Ok.ensures.missed.kept (λ e. cc) })
     c.in-Ok.ensures.text (rw c.deref.ensures.value at c.reply_to.ensures)

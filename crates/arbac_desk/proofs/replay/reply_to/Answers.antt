@@ -1,4 +1,4 @@
-use Rattle.std.proofs.Common.{◌≡◌, ◌∙◌, inr, sym, length, refl}
+use Rattle.std.proofs.Common.{◌≡◌, ◌∙◌, arith, inr, sym, length, refl}
 use Rattle.std.proofs.lemmas.Bool.{false≢true}
 use Rattle.policy_text.specs.declared.run_error.RunError.TheVariants as runs
 use Rattle.arbac_desk.proofs.ReplayLemmas.{no_value, known_conds, first_fault}
@@ -11,7 +11,7 @@ returns-in_ok-text-in-Err c =
     inr (inr (
       refl,
       inr (
-        c.if-bytes-gt-MOST_RUN_BYTES.false,
+        omega arith,
         c.in-Err.error,
         record {
           first = first_fault c.args.bytes.now c.in-Err.error c.in-Err.ensures.first told;
