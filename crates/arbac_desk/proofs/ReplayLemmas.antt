@@ -212,7 +212,8 @@ pub is_refused : (run : List ℕ) (shelf shelf' : ShelfView) (sink sink' : SinkV
     × ((IsRunText bytes → ⊥) → IsFaultless shelf shelf' sink sink' → (status ≡ 3) ⊎ (status ≡ 7)))
 is_refused run shelf shelf' sink sink' status answer = by_told (shelf.told run) refl
   where
-    by_reply : (bytes : List ℕ) → (IsRunText bytes → ⊥) → (status ≡ NO_MEMORY) ⊎ ((text : List ℕ) × IsReplyTo run bytes status text) → (status ≡ 3)
+    by_reply : (bytes : List ℕ) → (IsRunText bytes → ⊥) → (status ≡ NO_MEMORY) ⊎ ((text : List ℕ) × IsReplyTo run bytes status text)
+        → (status ≡ 3)
         ⊎ (status ≡ 7)
     by_reply bytes other (inl out) = inr out
     by_reply bytes other (inr (all, inl (told, h))) = absurd (other (h.ends.few, plain_of h.run, h.ends.stands))

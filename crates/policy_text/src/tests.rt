@@ -1,7 +1,7 @@
 //! Run texts with what they stand for, or their first fault.
 
-use crate::{MOST_ACTS, MOST_EDGES, MOST_GOALS, MOST_RULES, MOST_USERS, Run, RunError, read_run};
-use arbac_policy::{Act, ActKind, CanRevoke, Cond};
+use crate::{MOST_ACTS, MOST_USERS, Run, RunError, read_run};
+use arbac_policy::{Act, ActKind, CanRevoke, Cond, MOST_EDGES, MOST_GOALS, MOST_RULES};
 use cond_text::CondError;
 use role_order::{MOST_ROLES, OrderError, Range};
 use std::alloc::{AllocError, Global};
