@@ -5,6 +5,8 @@ pub mod RoundLemmas
 pub mod OutcomeLemmas
 pub mod PlanLemmas
 pub mod RowLemmas
+pub mod CoverTests
+pub mod SmallRowLemmas
 pub mod MonotonyLemmas
 pub mod AdminLemmas
 pub mod AlikeLemmas
