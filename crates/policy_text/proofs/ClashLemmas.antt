@@ -17,7 +17,8 @@ use Rattle.cond_text.specs.Faults.{IsFaultAt, IsFine, AreFine, IsFirstFault as I
 use Rattle.cond_text.specs.Reading.{IsRefused as IsRefusedCond}
 use Rattle.policy_text.specs.declared.run_error.RunError.{RunError}
 use Rattle.policy_text.specs.declared.run_error.RunError.TheVariants.{BadLine, UnknownRole, Order, Cond, TooMany, Unended, Memory}
-use Rattle.policy_text.specs.Lines.{split, is_order_line}
+use Rattle.text_lines.specs.Lines.{split}
+use Rattle.policy_text.specs.Lines.{is_order_line}
 use Rattle.cond_text.specs.Ranges.{NamedRange}
 use Rattle.policy_text.specs.LineForms.{LineForm, a_role, an_edge, an_assign, a_revoke, a_user, an_act, a_goal, IsWellFormed, tells_order, spell}
 use Rattle.policy_text.specs.Spelling.{form_of}
@@ -82,7 +83,7 @@ known_clash run next (an_assign admin range condition) g (inr u) = range_clash r
 known_clash run next (a_revoke admin range) g (inl u) = named_clash run.names admin g.0.admin g.1 u
 known_clash run next (a_revoke admin range) g (inr u) = range_clash run.names range g.0.range.low g.0.range.high g.2.low g.2.high u
 known_clash run next (a_user words) g u = each_clash run.names words g.1.roles g.1.named u
-known_clash run next (an_act kind admin target role) g u = named_clash run.names role g.0.role g.4 u
+known_clash run next (an_act act) g u = named_clash run.names act.role g.0.role g.4 u
 known_clash run next (a_goal condition) g u = u
 
 condition_clash : (run next : RunValue) (form : LineForm) (error : CondError) → Extends run form next → HasCondFault run.names form error → ⊥
@@ -92,7 +93,7 @@ condition_clash run next (a_role name) error g f = f
 condition_clash run next (an_edge senior junior) error g f = f
 condition_clash run next (a_revoke admin range) error g f = f
 condition_clash run next (a_user words) error g f = f
-condition_clash run next (an_act kind admin target role) error g f = f
+condition_clash run next (an_act act) error g f = f
 
 -- two forms with one spelling are one
 pub spell_one : (a b : LineForm) → IsWellFormed a → IsWellFormed b → spell a ≡ spell b → a ≡ b
@@ -199,7 +200,7 @@ keep_one run next (an_edge senior junior) t g = absurd (cc)
 keep_one run next (an_assign admin range condition) t g = (ap (λ (r : RunValue). r.names) g.4, ap (λ (r : RunValue). r.edges) g.4)
 keep_one run next (a_revoke admin range) t g = (ap (λ (r : RunValue). r.names) g.3, ap (λ (r : RunValue). r.edges) g.3)
 keep_one run next (a_user words) t g = (ap (λ (r : RunValue). r.names) g.2, ap (λ (r : RunValue). r.edges) g.2)
-keep_one run next (an_act kind admin target role) t g = (ap (λ (r : RunValue). r.names) g.5, ap (λ (r : RunValue). r.edges) g.5)
+keep_one run next (an_act act) t g = (ap (λ (r : RunValue). r.names) g.5, ap (λ (r : RunValue). r.edges) g.5)
 keep_one run next (a_goal condition) t g = (ap (λ (r : RunValue). r.names) g.2, ap (λ (r : RunValue). r.edges) g.2)
 
 pub no_order : (run : RunValue) (form : LineForm) → (behind_edges run ≡ 0 → ⊥) → MayStand run form → tells_order form ≡ false
@@ -211,7 +212,7 @@ no_order run (an_edge senior junior) late p = absurd (late p.0)
 no_order run (an_assign admin range condition) late p = refl
 no_order run (a_revoke admin range) late p = refl
 no_order run (a_user words) late p = refl
-no_order run (an_act kind admin target role) late p = refl
+no_order run (an_act act) late p = refl
 no_order run (a_goal condition) late p = refl
 
 pub still_late : (run next : RunValue) (form : LineForm) → IsWellFormed form → tells_order form ≡ false → Adds run form next

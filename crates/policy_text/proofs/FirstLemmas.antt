@@ -16,7 +16,8 @@ use Rattle.cond_text.specs.Faults.{IsFaultAt, IsFirstFault as IsFirstCondFault}
 use Rattle.cond_text.specs.Reading.{IsRefused as IsRefusedCond}
 use Rattle.policy_text.specs.declared.run_error.RunError.{RunError}
 use Rattle.policy_text.specs.declared.run_error.RunError.TheVariants.{BadLine, UnknownRole, Order, Cond, TooMany, Unended, Memory}
-use Rattle.policy_text.specs.Lines.{split, is_order_line}
+use Rattle.text_lines.specs.Lines.{split}
+use Rattle.policy_text.specs.Lines.{is_order_line}
 use Rattle.policy_text.specs.LineForms.{LineForm, a_role, an_edge, an_assign, a_revoke, a_user, an_act, a_goal, IsWellFormed, tells_order, spell}
 use Rattle.policy_text.specs.Runs.{RunValue, nothing, HasRoom, Adds, AddAll, behind_edges, IsReadTo}
 use Rattle.policy_text.specs.Faults.{HasUnknown, HasCondFault, IsPlaced, IsLineFault, IsPastOrder, EndsOrder, IsFaultInside, IsFaultAhead, IsFirstFault}
@@ -71,7 +72,7 @@ condition_one names (a_role name) a b f g = absurd f
 condition_one names (an_edge senior junior) a b f g = absurd f
 condition_one names (a_revoke admin range) a b f g = absurd f
 condition_one names (a_user words) a b f g = absurd f
-condition_one names (an_act kind admin target role) a b f g = absurd f
+condition_one names (an_act act) a b f g = absurd f
 
 -- lines
 

@@ -1,22 +1,20 @@
 -- Each line that has a form is read as that form.
-use Rattle.std.proofs.Common.{ℕ, ◌≡◌, ◌<◌, ◌^◌, List, [], ◌∷◌, ◌++◌, append_assoc, append-nil, refl, sym, ◌∙◌, ap, Some}
+use Rattle.std.proofs.Common.{ℕ, ◌≡◌, List, [], ◌∷◌, ◌++◌, append_assoc, append-nil, refl, sym, ◌∙◌, ap, Some}
 use Rattle.std.specs.Prelude.{codes}
-use Rattle.std.specs.Fmt.{decimal}
 use Rattle.std.specs.Str.{IsUtf8}
 use Rattle.std.proofs.lemmas.Str.{is_utf8-from_IsUtf8}
 use Rattle.list_words.specs.Lists.{Each}
-use Rattle.arbac_policy.specs.declared.act.ActKind.{ActKind}
-use Rattle.arbac_policy.specs.declared.act.ActKind.TheVariants.{Assign, Weak, Strong}
 use Rattle.cond_text.specs.Cuts.{cut, IsName}
 use Rattle.cond_text.specs.Ranges.{NamedRange, IsNamedRange, spell_range}
-use Rattle.policy_text.specs.LineForms.{LineForm, a_role, an_edge, an_assign, a_revoke, a_user, an_act, a_goal, IsWellFormed, spell, spell_kind, spell_names}
-use Rattle.policy_text.specs.Spelling.{text_in, kind_in, role_in, edge_in, assign_in, revoke_in, user_in, words, names_behind, act_in, goal_in, keyword_in}
+use Rattle.text_lines.specs.Acts.{WrittenAct, IsWrittenAct, spell_act}
+use Rattle.policy_text.specs.LineForms.{LineForm, a_role, an_edge, an_assign, a_revoke, a_user, an_act, a_goal, IsWellFormed, spell, spell_names}
+use Rattle.policy_text.specs.Spelling.{text_in, role_in, edge_in, assign_in, revoke_in, user_in, words, names_behind, act_line_in, goal_in, keyword_in}
 use Rattle.policy_text.specs.Spelling.{form_of}
-use Rattle.cond_text.proofs.CutLemmas.{Lacks, cut_behind, cut_nowhere, lacks_append}
+use Rattle.cond_text.proofs.CutLemmas.{cut_behind, cut_nowhere, lacks_append}
 use Rattle.cond_text.proofs.NamedLemmas.{name_lacks, name_found}
 use Rattle.policy_text.proofs.WordLemmas.{words_cut, words_one}
-use Rattle.policy_text.proofs.NumberLemmas.{number_found, decimal_lacks}
 use Rattle.cond_text.proofs.RangeLemmas.{range_found, range_lacks}
+use Rattle.text_lines.proofs.ActLemmas.{act_found}
 
 text_found : (text : List ℕ) → IsUtf8 text → text_in text ≡ Some text
 unfolding text_in
@@ -65,30 +63,9 @@ user_found : (name : List ℕ) (names : List (List ℕ)) → IsName name → Eac
 unfolding user_in
 user_found name names h k = rw (words_found name names h k, all_names [] (name ∷ names) (h, k)) refl
 
-kind_found : (kind : ActKind) → kind_in (spell_kind kind) ≡ Some kind
-unfolding kind_in
-kind_found Assign = refl
-kind_found Weak = refl
-kind_found Strong = refl
-
-kind_lacks : (kind : ActKind) → Lacks 32 (spell_kind kind)
-kind_lacks Assign = (refl, (refl, (refl, (refl, (refl, (refl, tt))))))
-kind_lacks Weak = (refl, (refl, (refl, (refl, tt))))
-kind_lacks Strong = (refl, (refl, (refl, (refl, (refl, (refl, tt))))))
-
-act_found : (kind : ActKind) (admin target : ℕ) (role : List ℕ) → admin < 2 ^ 32 → target < 2 ^ 32 → IsName role
-    → act_in (spell_kind kind ++ (32 ∷ (decimal admin ++ (32 ∷ (decimal target ++ (32 ∷ role)))))) ≡ Some (an_act kind admin target role)
-unfolding act_in
-act_found kind admin target role h k l =
-    rw (
-      cut_behind 32 (spell_kind kind) (decimal admin ++ (32 ∷ (decimal target ++ (32 ∷ role)))) (kind_lacks kind),
-      kind_found kind,
-      cut_behind 32 (decimal admin) (decimal target ++ (32 ∷ role)) (decimal_lacks 32 admin refl h),
-      number_found admin h,
-      cut_behind 32 (decimal target) role (decimal_lacks 32 target refl k),
-      number_found target k,
-      name_found role l,
-    ) refl
+act_line_found : (act : WrittenAct) → IsWrittenAct act → act_line_in (spell_act act) ≡ Some (an_act act)
+unfolding act_line_in
+act_line_found act h = rw (act_found act h) refl
 
 goal_found : (condition : List ℕ) → IsUtf8 condition → goal_in condition ≡ Some (a_goal condition)
 unfolding goal_in
@@ -118,7 +95,7 @@ at_nobody : form_of (codes "user") ≡ Some (a_user [])
 unfolding form_of cut
 at_nobody = refl
 
-at_act : (rest : List ℕ) → form_of (codes "act " ++ rest) ≡ act_in rest
+at_act : (rest : List ℕ) → form_of (codes "act " ++ rest) ≡ act_line_in rest
 unfolding form_of cut keyword_in
 at_act rest = refl
 
@@ -136,6 +113,5 @@ form_found (an_assign admin range condition) h =
 form_found (a_revoke admin range) h = at_revoke (admin ++ (32 ∷ spell_range range)) ∙ revoke_found admin range h.0 h.1
 form_found (a_user []) h = at_nobody
 form_found (a_user (name ∷ names)) h = at_user (name ++ spell_names names) ∙ user_found name names h.0 h.1
-form_found (an_act kind admin target role) h =
-    at_act (spell_kind kind ++ (32 ∷ (decimal admin ++ (32 ∷ (decimal target ++ (32 ∷ role)))))) ∙ act_found kind admin target role h.0 h.1 h.2
+form_found (an_act act) h = at_act (spell_act act) ∙ act_line_found act h
 form_found (a_goal condition) h = at_goal condition ∙ goal_found condition h

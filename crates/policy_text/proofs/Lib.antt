@@ -1,6 +1,4 @@
-pub mod LineLemmas
 pub mod WordLemmas
-pub mod NumberLemmas
 pub mod FormLemmas
 pub mod SpellLemmas
 pub mod StepLemmas

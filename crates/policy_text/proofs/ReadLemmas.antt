@@ -11,7 +11,7 @@ use Rattle.policy_text.specs.declared.body.Body.{Body}
 use Rattle.policy_text.specs.declared.run_error.RunError.{RunError}
 use Rattle.policy_text.specs.declared.run_error.RunError.TheVariants.{BadLine, UnknownRole, Order, Cond, TooMany, Unended, Memory}
 use Rattle.cond_text.specs.Cuts.{cut}
-use Rattle.policy_text.specs.Lines.{split}
+use Rattle.text_lines.specs.Lines.{split}
 use Rattle.policy_text.specs.LineForms.{LineForm, IsWellFormed, spell}
 use Rattle.policy_text.specs.declared.run.Run.{Run}
 use Rattle.arbac_policy.specs.PlainRules.{plain_rule}
@@ -21,7 +21,7 @@ use Rattle.policy_text.proofs.FirstLemmas.{one_fault}
 use Rattle.policy_text.specs.Faults.{EndsOrder, IsFaultInside, IsFirstFault, IsRefused, Tells}
 use Rattle.policy_text.specs.Steps.{listing_view, order_view, run_view, IsOrderTold, Passes, StopsAt, EndsWith, IsBodyFault, Told}
 use Rattle.cond_text.proofs.CutLemmas.{cut_joined}
-use Rattle.policy_text.proofs.LineLemmas.{split_none, split_first}
+use Rattle.text_lines.proofs.LineLemmas.{split_none, split_first}
 use Rattle.policy_text.proofs.RunLemmas.{few_nothing}
 use Rattle.policy_text.proofs.SoleLemmas.{known_nothing, each_plain}
 use Rattle.list_words.proofs.EachLemmas.{each_append}

@@ -67,7 +67,7 @@ few_more run next (a_user names) f a =
       acts = f.acts;
       goal = f.goal;
     })
-few_more run next (an_act kind admin target role) f a =
+few_more run next (an_act act) f a =
     subst KeepsLimits (sym a.extends.5)
     (record {
       names = f.names;

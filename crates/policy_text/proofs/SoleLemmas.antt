@@ -68,12 +68,12 @@ extends_one run a b (a_revoke admin range) h k =
     h.3 ∙ ap (λ (e : CanRevoke). record run { revoke = run.revoke ++ e ∷ [] }) same ∙ sym k.3
 extends_one run a b (a_user names) h k =
     h.2 ∙ ap (λ (e : List ℕ). record run { start = run.start ++ e ∷ [] }) (set_one run.names names h.0 k.0 h.1 k.1) ∙ sym k.2
-extends_one run a b (an_act kind admin target role) h k =
+extends_one run a b (an_act written) h k =
     let same : h.0 ≡ k.0 =
     ap (λ x. record { kind = x; admin = h.0.admin; target = h.0.target; role = h.0.role }) (h.1 ∙ sym k.1)
     ∙ ap (λ (x : ℕ). record { kind = k.0.kind; admin = x; target = h.0.target; role = h.0.role }) (h.2 ∙ sym k.2)
     ∙ ap (λ (x : ℕ). record { kind = k.0.kind; admin = k.0.admin; target = x; role = h.0.role }) (h.3 ∙ sym k.3)
-    ∙ ap (λ (x : ℕ). record { kind = k.0.kind; admin = k.0.admin; target = k.0.target; role = x }) (role_one run.names role h.0.role k.0.role h.4 k.4) in
+    ∙ ap (λ (x : ℕ). record { kind = k.0.kind; admin = k.0.admin; target = k.0.target; role = x }) (role_one run.names written.role h.0.role k.0.role h.4 k.4) in
     h.5 ∙ ap (λ (e : Act). record run { acts = run.acts ++ e ∷ [] }) same ∙ sym k.5
 extends_one run a b (a_goal condition) h k =
     h.2 ∙ ap (λ (e : Term). record run { goal = run.goal ++ e ∷ [] }) (cond_one run.names condition h.0 k.0 h.1 k.1) ∙ sym k.2
@@ -139,7 +139,7 @@ known_more run next (a_revoke admin range) known a =
     (record { assign = known.assign; revoke = each_more (IsKnownRevoke (length run.names)) run.revoke a.extends.0 known.revoke rule; goal = known.goal })
 known_more run next (a_user names) known a =
     subst AreKnownRules (sym a.extends.2) (record { assign = known.assign; revoke = known.revoke; goal = known.goal })
-known_more run next (an_act kind admin target role) known a =
+known_more run next (an_act act) known a =
     subst AreKnownRules (sym a.extends.5) (record { assign = known.assign; revoke = known.revoke; goal = known.goal })
 known_more run next (a_goal condition) known a =
     subst AreKnownRules (sym a.extends.2) (record {

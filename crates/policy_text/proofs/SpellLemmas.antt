@@ -2,26 +2,25 @@
 use Rattle.std.proofs.Common.{ℕ, ◌≡◌, Bool, true, false, List, [], ◌∷◌, ◌++◌, append_assoc, refl, sym, ◌∙◌, ap, subst, Option, Some}
 use Rattle.std.proofs.Common.{None, eqb, cond}
 use Rattle.std.specs.Prelude.{codes}
-use Rattle.std.specs.Fmt.{decimal}
 use Rattle.std.specs.Str.{IsUtf8, is_utf8, bytes_eq}
 use Rattle.std.proofs.lemmas.Bool.{eqb-true}
 use Rattle.std.proofs.lemmas.Slice.Eq.{bytes_eq-Decides}
 use Rattle.std.proofs.lemmas.Str.{IsUtf8-from_is_utf8}
 use Rattle.list_words.specs.Lists.{Each}
 use Rattle.role_order.specs.Names.{is_name}
-use Rattle.arbac_policy.specs.declared.act.ActKind.{ActKind}
-use Rattle.arbac_policy.specs.declared.act.ActKind.TheVariants.{Assign, Weak, Strong}
 use Rattle.policy_text.specs.declared.line.Keyword.{Keyword}
 use Rattle.policy_text.specs.declared.line.Keyword.TheVariants as k
 use Rattle.cond_text.specs.Cuts.{cut, IsName, only_if, name_in}
 use Rattle.cond_text.specs.Ranges.{spell_range, range_in}
-use Rattle.policy_text.specs.LineForms.{LineForm, a_role, an_edge, an_assign, a_revoke, a_user, an_act, a_goal, IsWellFormed, spell, spell_kind, spell_names}
-use Rattle.policy_text.specs.Spelling.{text_in, number_in, kind_in, role_in, edge_in, assign_in, revoke_in, user_in, words, in_first, names_behind, act_in}
+use Rattle.text_lines.specs.Acts.{act_in}
+use Rattle.policy_text.specs.LineForms.{LineForm, a_role, an_edge, an_assign, a_revoke, a_user, an_act, a_goal, IsWellFormed, spell, spell_names}
+use Rattle.policy_text.specs.Spelling.{text_in, role_in, edge_in, assign_in, revoke_in, user_in, words, in_first, names_behind, act_line_in}
 use Rattle.policy_text.specs.Spelling.{goal_in, keyword_in, form_with, form_by, form_of}
 use Rattle.cond_text.proofs.CutLemmas.{step_of, only_is, cut_is}
 use Rattle.cond_text.proofs.NamedLemmas.{named}
-use Rattle.policy_text.proofs.NumberLemmas.{number_is}
 use Rattle.cond_text.proofs.RangeLemmas.{ranged}
+use Rattle.text_lines.proofs.WordLemmas.{pick}
+use Rattle.text_lines.proofs.ActLemmas.{act_is}
 use Rattle.list_words.proofs.EachLemmas.{each_append}
 use Rattle.list_words.proofs.GetLemmas.{same_some}
 
@@ -134,48 +133,13 @@ user_is rest form e =
     let same : a_user names.0 ≡ form = cc in
     subst (Spells (codes "user " ++ rest)) same (n.0, ap (λ t. codes "user" ++ spell_names t) (sym n.1) ∙ ap (λ t. codes "user" ++ t) (words_spelled rest))
 
--- a word is what is found by it
-pick : {K : Type 0} (word text : List ℕ) (a b : K) (o : Option K) (spelled : K → List ℕ) → spelled a ≡ text
-    → cond (bytes_eq word text) (Some a) o ≡ Some b → (o ≡ Some b → word ≡ spelled b) → word ≡ spelled b
-pick {K} word text a b o spelled is e later = by_test (bytes_eq word text) refl e
-  where
-    by_test : (t : Bool) → bytes_eq word text ≡ t → cond t (Some a) o ≡ Some b → word ≡ spelled b
-    by_test true t e =
-        let same : a ≡ b = cc in
-        (bytes_eq-Decides word text).0 t ∙ sym is ∙ ap spelled same
-    by_test false t e = later e
-
-kind_is : (word : List ℕ) (kind : ActKind) → kind_in word ≡ Some kind → word ≡ spell_kind kind
-unfolding kind_in
-kind_is word kind e =
-    pick word (codes "assign") Assign kind _ spell_kind refl e
-    (λ f. pick word (codes "weak") Weak kind _ spell_kind refl f
-    (λ g. pick word (codes "strong") Strong kind _ spell_kind refl g (λ h. absurd (cc))))
-
-act_is : (rest : List ℕ) (form : LineForm) → act_in rest ≡ Some form → Spells (codes "act " ++ rest) form
-unfolding act_in spell
-act_is rest form e =
-    let first = step_of (cut 32 rest) _ form e in
-    let kind = step_of (kind_in first.0.0) _ form first.2 in
-    let second = step_of (cut 32 first.0.1) _ form kind.2 in
-    let admin = step_of (number_in second.0.0) _ form second.2 in
-    let third = step_of (cut 32 second.0.1) _ form admin.2 in
-    let target = step_of (number_in third.0.0) _ form third.2 in
-    let role = step_of (name_in third.0.1) _ form target.2 in
-    let a = number_is second.0.0 admin.0 admin.1 in
-    let t = number_is third.0.0 target.0 target.1 in
-    let r = named third.0.1 role.0 role.1 in
-    let same = same_some (an_act kind.0 admin.0 target.0 role.0) form role.2 in
-    subst (Spells (codes "act " ++ rest)) same (
-      (a.0, t.0, r.0),
-      ap (λ x. codes "act " ++ (x ++ (32 ∷ (decimal admin.0 ++ (32 ∷ (decimal target.0 ++ (32 ∷ role.0))))))) (sym (kind_is first.0.0 kind.0 kind.1))
-          ∙ ap (λ x. codes "act " ++ (first.0.0 ++ (32 ∷ (x ++ (32 ∷ (decimal target.0 ++ (32 ∷ role.0))))))) a.1
-          ∙ ap (λ x. codes "act " ++ (first.0.0 ++ (32 ∷ (second.0.0 ++ (32 ∷ (x ++ (32 ∷ role.0))))))) t.1
-          ∙ ap (λ x. codes "act " ++ (first.0.0 ++ (32 ∷ (second.0.0 ++ (32 ∷ (third.0.0 ++ (32 ∷ x))))))) r.1
-          ∙ ap (λ x. codes "act " ++ (first.0.0 ++ (32 ∷ (second.0.0 ++ (32 ∷ x))))) (cut_is 32 second.0.1 third.0 third.1)
-          ∙ ap (λ x. codes "act " ++ (first.0.0 ++ (32 ∷ x))) (cut_is 32 first.0.1 second.0 second.1)
-          ∙ ap (λ x. codes "act " ++ x) (cut_is 32 rest first.0 first.1),
-    )
+act_line_is : (rest : List ℕ) (form : LineForm) → act_line_in rest ≡ Some form → Spells (codes "act " ++ rest) form
+unfolding act_line_in spell
+act_line_is rest form e =
+    let act = step_of (act_in rest) _ form e in
+    let a = act_is rest act.0 act.1 in
+    let same = same_some (an_act act.0) form act.2 in
+    subst (Spells (codes "act " ++ rest)) same (a.0, ap (λ t. codes "act " ++ t) a.1)
 
 goal_is : (rest : List ℕ) (form : LineForm) → goal_in rest ≡ Some form → Spells (codes "goal " ++ rest) form
 unfolding goal_in spell
@@ -213,7 +177,7 @@ with_keyword k.Edge rest form e = edge_is rest form e
 with_keyword k.Assign rest form e = assign_is rest form e
 with_keyword k.Revoke rest form e = revoke_is rest form e
 with_keyword k.User rest form e = user_is rest form e
-with_keyword k.Act rest form e = act_is rest form e
+with_keyword k.Act rest form e = act_line_is rest form e
 with_keyword k.Goal rest form e = goal_is rest form e
 
 nobody_is : (line : List ℕ) (form : LineForm) → only_if (bytes_eq line (codes "user")) (a_user []) ≡ Some form → Spells line form

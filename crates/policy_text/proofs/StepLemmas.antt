@@ -10,7 +10,8 @@ use Rattle.role_order.specs.Refusals.{IsOrder}
 use Rattle.policy_text.specs.declared.run_error.RunError.{RunError}
 use Rattle.policy_text.specs.declared.run_error.RunError.TheVariants.{BadLine, UnknownRole, Order, Cond, TooMany, Unended, Memory}
 use Rattle.cond_text.specs.Cuts.{cut}
-use Rattle.policy_text.specs.Lines.{split, is_order_line}
+use Rattle.text_lines.specs.Lines.{split}
+use Rattle.policy_text.specs.Lines.{is_order_line}
 use Rattle.cond_text.specs.Ranges.{spell_range}
 use Rattle.policy_text.specs.LineForms.{LineForm, a_role, an_edge, an_assign, a_revoke, a_user, an_act, a_goal, IsWellFormed, tells_order, condition_of}
 use Rattle.policy_text.specs.LineForms.{spell}
@@ -18,7 +19,7 @@ use Rattle.policy_text.specs.Spelling.{form_of}
 use Rattle.policy_text.specs.Runs.{RunValue, MayStand, Adds, AddAll, behind_edges}
 use Rattle.policy_text.specs.Faults.{IsPlaced, IsLineFault, IsPastOrder, EndsOrder}
 use Rattle.policy_text.specs.Steps.{IsFormFault, AddsLine, Passes, StopsAt, Told, GoesOn, HasNoEnd, EndsWith, IsBodyFault}
-use Rattle.policy_text.proofs.LineLemmas.{split_none, split_first, split_empty, nothing_left}
+use Rattle.text_lines.proofs.LineLemmas.{split_none, split_first, split_empty, nothing_left}
 use Rattle.policy_text.proofs.FormLemmas.{form_found}
 use Rattle.policy_text.proofs.SpellLemmas.{form_is}
 use Rattle.list_words.proofs.TestLemmas.{and_both}
@@ -32,7 +33,7 @@ order_line_is (an_assign admin range condition) = refl
 order_line_is (a_revoke admin range) = refl
 order_line_is (a_user []) = refl
 order_line_is (a_user (name ∷ names)) = refl
-order_line_is (an_act kind admin target role) = refl
+order_line_is (an_act act) = refl
 order_line_is (a_goal condition) = refl
 
 pub tells_of : (line : List ℕ) (form : LineForm) → form_of line ≡ Some form → is_order_line line ≡ tells_order form
@@ -57,7 +58,7 @@ spelled_long (an_assign admin range condition) =
     longer n x y z a b c = omega arith
 spelled_long (a_revoke admin range) = omega arith
 spelled_long (a_user names) = omega arith
-spelled_long (an_act kind admin target role) = omega arith
+spelled_long (an_act act) = omega arith
 spelled_long (a_goal condition) = behind_long (codes "goal ") condition
 
 pub condition_short : (line : List ℕ) (form : LineForm) → form_of line ≡ Some form → length (condition_of form) ≤ length line
@@ -232,7 +233,7 @@ begun run next line a late = by_form a.form (ap is_order_line (sym a.spelled) �
     by_form (a_revoke admin range) t a = subst at (sym a.extends.3) (λ e. longer_by_one run.revoke a.extends.0 _ (zero_both (length run.assign) _ e).1)
     by_form (a_user names) t a =
         subst at (sym a.extends.2) (λ e. longer_by_one run.start a.extends.0 _ (zero_both (length run.revoke) _ (zero_both (length run.assign) _ e).1).1)
-    by_form (an_act kind admin target role) t a =
+    by_form (an_act act) t a =
         subst at (sym a.extends.5)
         (λ e. longer_by_one run.acts a.extends.0 _
         (zero_both (length run.start) _ (zero_both (length run.revoke) _ (zero_both (length run.assign) _ e).1).1).1)

@@ -1,20 +1,11 @@
--- Names, texts and numbers: what the code finds is what the definitions say.
-use Rattle.std.proofs.Common.{ℕ, ◌≡◌, ◌<◌, ◌^◌, Bool, true, false, List, [], ◌∷◌, ◌++◌, length, refl, arith, rules, ◌∙◌, ap}
-use Rattle.std.proofs.Common.{Option, Some, None, Result, Ok, Err, eqb, ltb, zero, suc, cond, map}
-use Rattle.std.specs.Prelude.{not, ◌&&◌}
-use Rattle.std.specs.List.{list_all}
-use Rattle.std.specs.Result.{result_ok, OkIff}
-use Rattle.std.specs.Char.{is_ascii_digit}
-use Rattle.std.specs.Str.{IsUtf8, is_utf8, IsAscii}
-use Rattle.std.specs.Str.Parse.{ParsesUnsigned, digits_value}
-use Rattle.std.proofs.lemmas.Bool.Decides.{nat_tests}
-use Rattle.std.proofs.lemmas.Str.{IsUtf8-from_ascii, is_utf8-from_IsUtf8, IsUtf8-from_is_utf8}
-use Rattle.std.proofs.lemmas.Str.Parse.{IsNumeralModel, IsDigitsTest, numerals_by_value, parse_digits}
+-- Names and texts: what the code finds is what the definitions say.
+use Rattle.std.proofs.Common.{ℕ, ◌≡◌, Bool, true, false, List, [], ◌∷◌, ◌++◌, refl, ◌∙◌, ap, Option, Some, None, eqb, cond, map}
+use Rattle.std.specs.Str.{IsUtf8, is_utf8}
+use Rattle.std.proofs.lemmas.Str.{is_utf8-from_IsUtf8, IsUtf8-from_is_utf8}
 use Rattle.cond_text.specs.Cuts.{cut, with_front, only_if, name_in}
-use Rattle.policy_text.specs.Spelling.{text_in, is_numeral, number_in, words, in_first, names_behind}
+use Rattle.policy_text.specs.Spelling.{text_in, words, in_first, names_behind}
 use Rattle.cond_text.proofs.CutLemmas.{same_pair}
 use Rattle.cond_text.proofs.NamedLemmas.{name_is, no_name}
-use Rattle.list_words.proofs.TestLemmas.{and_both}
 use Rattle.std.proofs.lemmas.List.{map-append}
 
 pub text_given : (bytes text : List ℕ) → text ≡ bytes → IsUtf8 bytes → Some text ≡ text_in bytes
@@ -28,58 +19,6 @@ text_refused bytes bad = by_test (is_utf8 bytes) refl
     by_test : (t : Bool) → is_utf8 bytes ≡ t → None ≡ only_if t bytes
     by_test true e = absurd (bad (IsUtf8-from_is_utf8 bytes e))
     by_test false e = refl
-
--- bytes of digits alone are the numerals that std reads
-pub digits_test : IsDigitsTest (λ ds. list_all is_ascii_digit ds ≡ true)
-digits_test = search rules
-
-pub own : IsNumeralModel (λ ds. list_all is_ascii_digit ds ≡ true) (digits_value 10)
-own = numerals_by_value _ digits_test
-
-pub number_refused : (bytes : List ℕ) → is_numeral bytes ≡ false → None ≡ number_in bytes
-unfolding number_in
-number_refused bytes h = rw h refl
-
-pub digits_of : (bytes : List ℕ) → is_numeral bytes ≡ true → list_all is_ascii_digit bytes ≡ true
-unfolding is_numeral
-digits_of bytes h = (and_both (list_all is_ascii_digit bytes) _ ((and_both (list_all is_ascii_digit bytes && not (eqb (length bytes) 0)) _ h).0)).0
-
-pub numeral_long : (bytes : List ℕ) → is_numeral bytes ≡ true → 0 < length bytes
-unfolding is_numeral
-numeral_long bytes h =
-    longer bytes ((and_both (list_all is_ascii_digit bytes) _ ((and_both (list_all is_ascii_digit bytes && not (eqb (length bytes) 0)) _ h).0)).1)
-  where
-    longer : (bytes : List ℕ) → not (eqb (length bytes) 0) ≡ true → 0 < length bytes
-    longer [] e = absurd (cc)
-    longer (b ∷ bs) e = omega arith
-
-digit_small : (b : ℕ) → is_ascii_digit b ≡ true → b < 128
-digit_small b h = grind (arith, nat_tests)
-
--- a numeral is text
-pub numeral_text : (bytes : List ℕ) → is_numeral bytes ≡ true → IsUtf8 bytes
-numeral_text bytes h = IsUtf8-from_ascii bytes (small bytes (digits_of bytes h))
-  where
-    small : (text : List ℕ) → list_all is_ascii_digit text ≡ true → IsAscii text
-    small [] h i = omega arith
-    small (b ∷ bs) h zero = digit_small b ((and_both (is_ascii_digit b) _ h).0)
-    small (b ∷ bs) h (suc i) = small bs ((and_both (is_ascii_digit b) _ h).1) i
-
-pub number_parsed : {E : Type 0} (bytes : List ℕ) (r : Result ℕ E) → is_numeral bytes ≡ true → ParsesUnsigned 32 10 bytes r
-    → result_ok r ≡ number_in bytes
-unfolding number_in
-number_parsed {E} bytes r h parses = by_result r (parse_digits own 32 bytes r parses (digits_of bytes h))
-  where
-    by_result : (r : Result ℕ E) → OkIff r ((0 < length bytes) × (digits_value 10 bytes < 2 ^ 32)) (digits_value 10 bytes)
-        → result_ok r ≡ only_if (is_numeral bytes && ltb (digits_value 10 bytes) (2 ^ 32)) (digits_value 10 bytes)
-    by_result (Ok x) k =
-        let fits : ltb (digits_value 10 bytes) (2 ^ 32) ≡ true = grind (arith, nat_tests) in
-        rw (h, fits) (ap Some k.1)
-    by_result (Err e) k = by_size (ltb (digits_value 10 bytes) (2 ^ 32)) refl
-      where
-        by_size : (t : Bool) → ltb (digits_value 10 bytes) (2 ^ 32) ≡ t → None ≡ only_if (is_numeral bytes && t) (digits_value 10 bytes)
-        by_size true s = let less : digits_value 10 bytes < 2 ^ 32 = grind (arith, nat_tests) in absurd (k (numeral_long bytes h, less))
-        by_size false s = rw h refl
 
 -- the words of a text, cut at its first space
 pub words_cut : (bytes word rest : List ℕ) → cut 32 bytes ≡ Some (word, rest) → words bytes ≡ word ∷ words rest

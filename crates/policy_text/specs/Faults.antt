@@ -10,7 +10,8 @@ use Rattle.cond_text.specs.Reading.{IsRefused as IsRefusedCond}
 use Rattle.policy_text.specs.declared.run.Run.{Run}
 use Rattle.policy_text.specs.declared.run_error.RunError.{RunError}
 use Rattle.policy_text.specs.declared.run_error.RunError.TheVariants.{BadLine, UnknownRole, Order, Cond, TooMany, Unended, Memory}
-use Rattle.policy_text.specs.Lines.{split, is_order_line}
+use Rattle.text_lines.specs.Lines.{split}
+use Rattle.policy_text.specs.Lines.{is_order_line}
 use Rattle.policy_text.specs.LineForms.{LineForm, a_role, an_edge, an_assign, a_revoke, a_user, an_act, a_goal, IsWellFormed, spell}
 use Rattle.policy_text.specs.Runs.{RunValue, behind_edges, MayStand, HasRoom, IsReadTo}
 use Rattle.cond_text.specs.Named.{IsUnknown, HasUnknownEnd}
@@ -22,7 +23,7 @@ HasUnknown names (an_edge senior junior) = IsUnknown names senior ⊎ IsUnknown 
 HasUnknown names (an_assign admin range condition) = IsUnknown names admin ⊎ HasUnknownEnd names range
 HasUnknown names (a_revoke admin range) = IsUnknown names admin ⊎ HasUnknownEnd names range
 HasUnknown names (a_user words) = Some_of (IsUnknown names) words
-HasUnknown names (an_act kind admin target role) = IsUnknown names role
+HasUnknown names (an_act act) = IsUnknown names act.role
 HasUnknown names (a_goal condition) = ⊥
 
 -- the line has a condition, and this is its text's first fault
@@ -33,7 +34,7 @@ HasCondFault names (a_role name) error = ⊥
 HasCondFault names (an_edge senior junior) error = ⊥
 HasCondFault names (a_revoke admin range) error = ⊥
 HasCondFault names (a_user words) error = ⊥
-HasCondFault names (an_act kind admin target role) error = ⊥
+HasCondFault names (an_act act) error = ⊥
 
 -- the line has a form, and stands in its place
 pub record IsPlaced (run : RunValue) (line : List ℕ) (form : LineForm) : Type 0 where

@@ -12,7 +12,7 @@ use Rattle.policy_text.specs.declared.TheConstants.{MOST_USERS, MOST_ACTS}
 use Rattle.policy_text.specs.declared.run.Run.{Run}
 use Rattle.policy_text.specs.declared.run_error.RunError.{RunError}
 use Rattle.policy_text.specs.declared.run_error.RunError.TheVariants.{Memory}
-use Rattle.policy_text.specs.Lines.{split}
+use Rattle.text_lines.specs.Lines.{split}
 use Rattle.policy_text.specs.LineForms.{LineForm, a_role, an_edge, an_assign, a_revoke, a_user, an_act, a_goal, IsWellFormed, spell}
 use Rattle.arbac_policy.specs.PlainRules.{AssignRule, plain_rule}
 use Rattle.cond_text.specs.Named.{Names, NamesRange, ReadsAs, NamesSet}
@@ -80,7 +80,7 @@ MayStand run (an_edge senior junior) = (behind_edges run ≡ 0) × (1 ≤ length
 MayStand run (an_assign admin range condition) = behind_assigns run ≡ 0
 MayStand run (a_revoke admin range) = behind_revokes run ≡ 0
 MayStand run (a_user names) = behind_users run ≡ 0
-MayStand run (an_act kind admin target role) = behind_acts run ≡ 0
+MayStand run (an_act act) = behind_acts run ≡ 0
 MayStand run (a_goal condition) = Unit {0}
 
 -- there is room for one more line of the kind
@@ -90,7 +90,7 @@ HasRoom run (an_edge senior junior) = length run.edges < MOST_EDGES
 HasRoom run (an_assign admin range condition) = length run.assign < MOST_RULES
 HasRoom run (a_revoke admin range) = length run.revoke < MOST_RULES
 HasRoom run (a_user names) = length run.start < MOST_USERS
-HasRoom run (an_act kind admin target role) = length run.acts < MOST_ACTS
+HasRoom run (an_act act) = length run.acts < MOST_ACTS
 HasRoom run (a_goal condition) = length run.goal < MOST_GOALS
 
 -- with what the line says, the run becomes the next
@@ -106,8 +106,8 @@ Extends run (a_revoke admin range) next =
     × (next ≡ record run { revoke = run.revoke ++ rule ∷ [] })
 Extends run (a_user names) next =
     (set : List ℕ) × NamesSet run.names names set × (next ≡ record run { start = run.start ++ set ∷ [] })
-Extends run (an_act kind admin target role) next =
-    (act : Act) × (act.kind ≡ kind) × (act.admin ≡ admin) × (act.target ≡ target) × Names run.names role act.role
+Extends run (an_act written) next =
+    (act : Act) × (act.kind ≡ written.kind) × (act.admin ≡ written.admin) × (act.target ≡ written.target) × Names run.names written.role act.role
     × (next ≡ record run { acts = run.acts ++ act ∷ [] })
 Extends run (a_goal condition) next = (term : Term) × ReadsAs run.names condition term × (next ≡ record run { goal = run.goal ++ term ∷ [] })
 

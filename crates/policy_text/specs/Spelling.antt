@@ -1,36 +1,17 @@
 -- The form that a line has, computed. The laws say that it is the one form that the line spells.
-use Rattle.std.specs.Prelude.{ℕ, ◌==◌, ◌&&◌, ◌||◌, nat_lt, ◌^◌, Bool, not, if◌then◌else◌, List, [], ◌∷◌, ◌++◌, length}
-use Rattle.std.specs.Prelude.{Option, Some, None, codes}
-use Rattle.std.specs.List.{list_all}
-use Rattle.std.specs.Char.{is_ascii_digit}
+use Rattle.std.specs.Prelude.{ℕ, ◌==◌, if◌then◌else◌, List, [], ◌∷◌, ◌++◌, Option, Some, None, codes}
 use Rattle.std.specs.Str.{bytes_eq, is_utf8}
-use Rattle.std.specs.Str.Parse.{digits_value}
 use Rattle.role_order.specs.Names.{is_name}
-use Rattle.arbac_policy.specs.declared.act.ActKind.{ActKind}
-use Rattle.arbac_policy.specs.declared.act.ActKind.TheVariants.{Assign, Weak, Strong}
 use Rattle.policy_text.specs.declared.line.Keyword.{Keyword}
 use Rattle.policy_text.specs.declared.line.Keyword.TheVariants as k
 use Rattle.cond_text.specs.Cuts.{cut, byte_of, ◌>>=◌, only_if, name_in}
 use Rattle.cond_text.specs.Ranges.{range_in}
+use Rattle.text_lines.specs.Acts.{act_in}
 use Rattle.policy_text.specs.LineForms.{LineForm, a_role, an_edge, an_assign, a_revoke, a_user, an_act, a_goal}
 
 -- the text, where it is UTF-8
 unfoldable pub text_in : List ℕ → Option (List ℕ)
 text_in text = only_if (is_utf8 text) text
-
--- decimal digits, without a leading zero
-unfoldable pub is_numeral : List ℕ → Bool
-is_numeral text = list_all is_ascii_digit text && not (length text == 0) && (not (byte_of text == byte_of (codes "0")) || (length text == 1))
-
--- the number of 32 bits that the text is
-unfoldable pub number_in : List ℕ → Option ℕ
-number_in text = only_if (is_numeral text && nat_lt (digits_value 10 text) (2 ^ 32)) (digits_value 10 text)
-
--- the kind that the word names
-unfoldable pub kind_in : List ℕ → Option ActKind
-kind_in word =
-    if bytes_eq word (codes "assign") then Some Assign else if bytes_eq word (codes "weak") then Some Weak else if bytes_eq word
-    (codes "strong") then Some Strong else None
 
 -- what stands behind `role `
 unfoldable pub role_in : List ℕ → Option LineForm
@@ -86,16 +67,10 @@ user_in rest = do
   Some (a_user names)
 
 -- what stands behind `act `
-unfoldable pub act_in : List ℕ → Option LineForm
-act_in rest = do
-  first ← cut (byte_of (codes " ")) rest
-  kind ← kind_in first.0
-  second ← cut (byte_of (codes " ")) first.1
-  admin ← number_in second.0
-  third ← cut (byte_of (codes " ")) second.1
-  target ← number_in third.0
-  role ← name_in third.1
-  Some (an_act kind admin target role)
+unfoldable pub act_line_in : List ℕ → Option LineForm
+act_line_in rest = do
+  act ← act_in rest
+  Some (an_act act)
 
 -- what stands behind `goal `
 unfoldable pub goal_in : List ℕ → Option LineForm
@@ -118,7 +93,7 @@ form_with (Some k.Edge) rest = edge_in rest
 form_with (Some k.Assign) rest = assign_in rest
 form_with (Some k.Revoke) rest = revoke_in rest
 form_with (Some k.User) rest = user_in rest
-form_with (Some k.Act) rest = act_in rest
+form_with (Some k.Act) rest = act_line_in rest
 form_with (Some k.Goal) rest = goal_in rest
 form_with None rest = None
 

@@ -12,7 +12,7 @@ use Rattle.policy_text.specs.declared.listing.Listing.{Listing}
 use Rattle.policy_text.specs.declared.body.Body.{Body}
 use Rattle.policy_text.specs.declared.run_error.RunError.{RunError}
 use Rattle.policy_text.specs.declared.run_error.RunError.TheVariants.{BadLine, UnknownRole, Order, Cond, TooMany, Unended, Memory}
-use Rattle.policy_text.specs.Lines.{split}
+use Rattle.text_lines.specs.Lines.{split}
 use Rattle.policy_text.specs.LineForms.{LineForm, IsWellFormed, spell}
 use Rattle.arbac_policy.specs.PlainRules.{plain_rule}
 use Rattle.policy_text.specs.Runs.{RunValue, nothing, MayStand, HasRoom, Adds, AddAll}

@@ -5,8 +5,10 @@ ghost use Rattle.std.specs.Prelude.{map, IfOk, IfErr, IfSome, IfNone, OnOk};
 ghost use Rattle.std.specs.Str.{bytes_eq};
 ghost use Rattle.arbac_policy.specs.Truth.{term_of};
 ghost use Rattle.cond_text.specs.Ranges.{range_view};
+ghost use Rattle.text_lines.specs.Lines.{split};
+ghost use Rattle.text_lines.specs.Acts.{act_view};
 ghost use Rattle.policy_text.specs.Views.{form_of_line};
-ghost use Rattle.policy_text.specs.Lines.{split, is_order_line};
+ghost use Rattle.policy_text.specs.Lines.{is_order_line};
 ghost use Rattle.policy_text.specs.LineForms.{an_assign, a_revoke, a_user, an_act, a_goal, tells_order, condition_of};
 ghost use Rattle.cond_text.specs.Named.{ReadsAs, NamesRange, NamesSet, HasUnknownEnd, IsUnknown};
 ghost use Rattle.policy_text.specs.Runs.{Adds, behind_edges, behind_assigns, behind_revokes, behind_users, behind_acts};
@@ -16,13 +18,13 @@ ghost use Rattle.list_words.specs.Lists.{Some_of};
 ghost use Rattle.role_order.specs.Refusals.{IsOrder};
 
 use crate::line::{Line, read_line};
-use crate::lines::is;
 use crate::run_error::RunError;
 use crate::{MOST_ACTS, MOST_USERS};
-use arbac_policy::{Act, ActKind, CanAssign, CanRevoke, Cond, MOST_GOALS, MOST_RULES};
+use arbac_policy::{Act, CanAssign, CanRevoke, Cond, MOST_GOALS, MOST_RULES};
 use cond_text::{CondError, NamedRange, cut, parse_cond};
 use role_order::{Order, Range, RoleSet};
 use std::alloc::Global;
+use text_lines::{ActLine, is};
 
 /// What the lines behind the role order say, as far as they were read.
 #[derive(Drop)]
@@ -181,17 +183,9 @@ impl Body {
         Ok(())
     }
 
-    fn add_act(
-        &mut self,
-        order: &Order,
-        kind: ActKind,
-        admin: u32,
-        target: u32,
-        role: &str,
-        line: u32,
-    ) -> Result<(), RunError>
-        ensures added { OnOk result (Adds (run_view order.now self.old) (an_act kind admin target role.now) (run_view order.now self.new)) }
-        ensures fault { IfErr result (IsFormFault (run_view order.now self.old) (an_act kind admin target role.now) line) }
+    fn add_act(&mut self, order: &Order, act: &ActLine, line: u32) -> Result<(), RunError>
+        ensures added { OnOk result (Adds (run_view order.now self.old) (an_act (act_view act.now)) (run_view order.now self.new)) }
+        ensures fault { IfErr result (IsFormFault (run_view order.now self.old) (an_act (act_view act.now)) line) }
     {
         if !self.ends_with_acts() {
             return Err(RunError::BadLine { line });
@@ -199,13 +193,13 @@ impl Body {
         if self.acts.len() >= MOST_ACTS {
             return Err(RunError::TooMany { line });
         }
-        let Some(role) = order.role_named(role) else {
+        let Some(role) = order.role_named(act.role) else {
             return Err(RunError::UnknownRole { line });
         };
         self.acts.push(Act {
-            kind,
-            admin,
-            target,
+            kind: act.kind,
+            admin: act.admin,
+            target: act.target,
             role,
         })?;
         Ok(())
@@ -253,12 +247,7 @@ impl Body {
             } => self.add_assign(alloc, order, admin, range, condition, line),
             Line::Revoke { admin, range } => self.add_revoke(order, admin, range, line),
             Line::User(names) => self.add_user(order, names, line),
-            Line::Act {
-                kind,
-                admin,
-                target,
-                role,
-            } => self.add_act(order, *kind, *admin, *target, role, line),
+            Line::Act(act) => self.add_act(order, act, line),
             Line::Goal(condition) => self.add_goal(alloc, order, condition, line),
         }
     }

@@ -1,20 +1,14 @@
 //! The lines between the first line of a run text and its last.
 
-ghost use Rattle.std.specs.Prelude.{ℕ, ◌≡◌, ◌<◌, ◌^◌, [], IfOk, IfSome, IfNone, true, map};
-ghost use Rattle.std.specs.Char.{is_ascii_digit};
-ghost use Rattle.std.specs.List.{list_all};
+ghost use Rattle.std.specs.Prelude.{◌≡◌, [], IfOk, map};
 ghost use Rattle.std.specs.Option.{option_map};
-ghost use Rattle.cond_text.specs.Ranges.{range_in, range_view};
-ghost use Rattle.cond_text.specs.Cuts.{name_in};
-ghost use Rattle.policy_text.specs.Spelling as spelling;
-ghost use Rattle.policy_text.specs.Spelling.{text_in, number_in, kind_in, role_in, edge_in, assign_in, revoke_in, user_in, names_behind, words, act_in};
+ghost use Rattle.policy_text.specs.Spelling.{text_in, role_in, edge_in, assign_in, revoke_in, user_in, names_behind, words, act_line_in};
 ghost use Rattle.policy_text.specs.Spelling.{goal_in, keyword_in, form_of};
 ghost use Rattle.policy_text.specs.Views.{form_of_line};
 
-use crate::lines::is;
-use arbac_policy::ActKind;
 use cond_text::{NamedRange, cut, name_of, range_of};
 use std::alloc::{AllocError, Global};
+use text_lines::{ActLine, act_of, is};
 
 /// A line as it is written.
 #[derive(Drop)]
@@ -34,12 +28,7 @@ pub enum Line<'a> {
         range: NamedRange<'a>,
     },
     User(Vec<&'a str>),
-    Act {
-        kind: ActKind,
-        admin: u32,
-        target: u32,
-        role: &'a str,
-    },
+    Act(ActLine<'a>),
     Goal(&'a str),
 }
 
@@ -63,49 +52,6 @@ fn text_of(bytes: &[u8]) -> Option<&str>
     match str::from_utf8(bytes) {
         Ok(text) => Some(text),
         Err(_) => None,
-    }
-}
-
-fn are_digits(bytes: &[u8]) -> bool
-    ensures { result ≡ list_all is_ascii_digit bytes.now }
-{
-    bytes.iter().all(|b| b.is_ascii_digit())
-}
-
-/// Whether the bytes are decimal digits without a leading zero.
-#[tactic(auto, unfolding(crate::specs::Spelling::is_numeral))]
-fn is_numeral(bytes: &[u8]) -> bool
-    ensures { result ≡ spelling.is_numeral bytes.now }
-{
-    are_digits(bytes) && !bytes.is_empty() && (bytes[0] != b'0' || bytes.len() == 1)
-}
-
-/// The number of 32 bits that the bytes write in decimal digits.
-#[tactic(auto, using(crate::proofs::WordLemmas::number_refused, crate::proofs::WordLemmas::numeral_text))]
-fn number_of(bytes: &[u8]) -> Option<u32>
-    ensures { result ≡ number_in bytes.now }
-{
-    if !is_numeral(bytes) {
-        return None;
-    }
-    match str::from_utf8(bytes) {
-        Ok(text) => text.parse::<u32>().ok(),
-        Err(_) => None,
-    }
-}
-
-#[tactic(auto, unfolding(crate::specs::Spelling::kind_in))]
-fn kind_of(word: &[u8]) -> Option<ActKind>
-    ensures { result ≡ kind_in word.now }
-{
-    if is(word, "assign") {
-        Some(ActKind::Assign)
-    } else if is(word, "weak") {
-        Some(ActKind::Weak)
-    } else if is(word, "strong") {
-        Some(ActKind::Strong)
-    } else {
-        None
     }
 }
 
@@ -153,23 +99,12 @@ fn revoke_line(rest: &[u8]) -> Option<Line>
     Some(Line::Revoke { admin, range })
 }
 
-#[tactic(auto, unfolding(crate::specs::Spelling::act_in))]
+#[tactic(auto, unfolding(crate::specs::Spelling::act_line_in))]
 fn act_line(rest: &[u8]) -> Option<Line>
-    ensures { option_map form_of_line result ≡ act_in rest.now }
+    ensures { option_map form_of_line result ≡ act_line_in rest.now }
 {
-    let (kind, rest) = cut(rest, b' ')?;
-    let kind = kind_of(kind)?;
-    let (admin, rest) = cut(rest, b' ')?;
-    let admin = number_of(admin)?;
-    let (target, role) = cut(rest, b' ')?;
-    let target = number_of(target)?;
-    let role = name_of(role)?;
-    Some(Line::Act {
-        kind,
-        admin,
-        target,
-        role,
-    })
+    let act = act_of(rest)?;
+    Some(Line::Act(act))
 }
 
 #[tactic(auto, unfolding(crate::specs::Spelling::goal_in))]

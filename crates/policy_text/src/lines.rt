@@ -1,17 +1,10 @@
-//! The words of a line.
+//! The first word of a line.
 
 ghost use Rattle.std.specs.Prelude.{ℕ, ◌≡◌};
-ghost use Rattle.std.specs.Str.{bytes_eq};
 ghost use Rattle.policy_text.specs.Lines as lines;
 
 use cond_text::cut;
-
-/// Whether the word is this one.
-pub fn is(word: &[u8], text: &str) -> bool
-    ensures { result ≡ bytes_eq word.now text.now }
-{
-    word == text.as_bytes()
-}
+use text_lines::is;
 
 /// What stands before the first space.
 fn first_word(line: &[u8]) -> &[u8]

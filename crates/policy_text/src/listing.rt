@@ -5,7 +5,7 @@ ghost use Rattle.std.specs.Prelude.{OnOk};
 ghost use Rattle.role_order.specs.Names.{texts};
 ghost use Rattle.cond_text.specs.Cuts as cuts;
 ghost use Rattle.policy_text.specs.Lines as lines;
-ghost use Rattle.policy_text.specs.Lines.{split};
+ghost use Rattle.text_lines.specs.Lines.{split};
 ghost use Rattle.policy_text.specs.LineForms.{a_role, an_edge, tells_order};
 ghost use Rattle.policy_text.specs.Views.{form_of_line};
 ghost use Rattle.policy_text.specs.Runs.{nothing, Adds};
@@ -77,7 +77,7 @@ impl Listing {
             Line::Assign { .. } => unreachable!(),
             Line::Revoke { .. } => unreachable!(),
             Line::User(_) => unreachable!(),
-            Line::Act { .. } => unreachable!(),
+            Line::Act(_) => unreachable!(),
             Line::Goal(_) => unreachable!(),
         }
     }

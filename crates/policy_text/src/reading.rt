@@ -12,7 +12,6 @@ ghost use Rattle.policy_text.specs.Faults.{IsFirstFault, IsRefused, Tells};
 ghost use Rattle.policy_text.specs.Steps.{IsOrderTold, run_view};
 
 use crate::body::{Body, read_body};
-use crate::lines::is;
 use crate::listing::{Listed, Listing, read_listing};
 use crate::run::Run;
 use crate::run_error::RunError;
@@ -20,6 +19,7 @@ use arbac_policy::{CanAssign, CanRevoke, Policy};
 use cond_text::cut;
 use role_order::{Order, OrderError};
 use std::alloc::Global;
+use text_lines::is;
 
 /// The role order of the names and edges.
 fn order_of(alloc: Global, listing: Listing) -> Result<Order, RunError>

@@ -1,5 +1,5 @@
 use Rattle.std.proofs.Common.{◌≡◌, ◌≤◌, ◌+◌, length}
-use Rattle.policy_text.specs.Lines.{split}
+use Rattle.text_lines.specs.Lines.{split}
 use Rattle.policy_text.specs.Runs.{behind_edges}
 use Rattle.policy_text.specs.Faults.{EndsOrder}
 use Rattle.policy_text.specs.Steps.{order_view, body_view, run_view, Passes}

@@ -1,9 +1,10 @@
 -- The first piece of a text before a byte, and all lines.
 use Rattle.std.proofs.Common.{ℕ, ◌≡◌, Bool, true, false, List, [], ◌∷◌, length, refl, arith, Option, Some, None, eqb, cond}
 use Rattle.cond_text.specs.Cuts.{cut, with_front}
-use Rattle.policy_text.specs.Lines.{split, in_front, after_feed}
+use Rattle.text_lines.specs.Lines.{split, in_front, after_feed}
 use Rattle.cond_text.proofs.CutLemmas.{same_pair}
 
+-- bytes without a line feed have no whole line
 pub split_none : (bytes : List ℕ) → cut 10 bytes ≡ None → split bytes ≡ ([], bytes)
 unfolding cut split
 split_none [] e = refl
@@ -19,6 +20,7 @@ split_none (b ∷ bs) e = by_byte (eqb b 10) e (split_none bs)
         by_rest (Some found) f e rest = cc
         by_rest None f e rest = rw (rest f) refl
 
+-- what is cut at the first line feed is the first line, and the other lines are those of the rest
 pub split_first : (bytes line rest : List ℕ) → cut 10 bytes ≡ Some (line, rest) → split bytes ≡ (line ∷ (split rest).0, (split rest).1)
 unfolding cut split
 split_first [] line rest e = cc
@@ -50,6 +52,7 @@ nothing_left (b ∷ bs) e f = by_byte (eqb b 10) (split bs) e f
     by_byte false ([], part) e f = absurd (cc)
     by_byte false (l ∷ ls, part) e f = absurd (cc)
 
+-- no bytes have no line
 pub split_empty : (bytes : List ℕ) → length bytes ≡ 0 → split bytes ≡ ([], [])
 unfolding split
 split_empty [] e = refl
