@@ -1,0 +1,4 @@
+pub mod Steps
+pub mod Gains
+pub mod Relevant
+pub mod Slicing
