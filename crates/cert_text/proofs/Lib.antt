@@ -1,0 +1,16 @@
+pub mod PieceLemmas
+pub mod ListLemmas
+pub mod OriginLemmas
+pub mod UserLineLemmas
+pub mod UserReadLemmas
+pub mod LineFormLemmas
+pub mod ToldLemmas
+pub mod FeedLemmas
+pub mod BackLemmas
+pub mod PutLemmas
+pub mod KnownLemmas
+pub mod SoleLemmas
+pub mod StepLemmas
+pub mod SectionLemmas
+pub mod FirstLemmas
+pub mod ReadLemmas

@@ -1,0 +1,10 @@
+pub mod Certificates
+pub mod LineForms
+pub mod Drafts
+pub mod Faults
+pub mod Texts
+pub mod Sizes
+pub mod Views
+pub mod Spelling
+pub mod Told
+pub mod Steps
