@@ -1,0 +1,4 @@
+pub mod PlacedLemmas
+pub mod BitLemmas
+pub mod MovingLemmas
+pub mod ShortageLemmas
