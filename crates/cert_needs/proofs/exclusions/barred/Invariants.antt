@@ -1,0 +1,6 @@
+use Rattle.std.proofs.Common.{◌≡◌, drop}
+use Rattle.arbac_laws.specs.PreImages.{barred}
+use Rattle.cert_needs.proofs.exclusions.barred.Given as goal
+
+abbrev pub invariant-loop-at : goal.invariant-loop-at
+invariant-loop-at l = l.all ≡ barred l.order l.role (drop l.at l.pairs)
