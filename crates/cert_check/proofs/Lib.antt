@@ -1,0 +1,16 @@
+pub mod QuestionLemmas
+pub mod FirstLemmas
+pub mod DenialLemmas
+pub mod PlanLemmas
+pub mod DecidingLemmas
+pub mod ClosedLemmas
+pub mod JudgementLemmas
+pub mod BookLemmas
+pub mod RowLemmas
+pub mod IndexLemmas
+pub mod OriginLemmas
+pub mod StepLemmas
+pub mod PassingLemmas
+pub mod PickLemmas
+pub mod ImageLemmas
+pub mod UsefulLemmas

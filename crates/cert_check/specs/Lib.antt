@@ -1,0 +1,9 @@
+pub mod Rulebooks
+pub mod CoverRows
+pub mod Indexes
+pub mod Asked
+pub mod Origins
+pub mod Steps
+pub mod Judgements
+pub mod Firsts
+pub mod Passing
