@@ -12,6 +12,8 @@ use Rattle.question_text.specs.declared.question_error.QuestionError.{QuestionEr
 use Rattle.question_text.specs.declared.question_error.QuestionError.TheVariants as questions
 use Rattle.profile_set.specs.declared.members_error.MembersError.{MembersError}
 use Rattle.profile_set.specs.declared.members_error.MembersError.TheVariants as members
+use Rattle.cert_text.specs.declared.cert_error.CertError.{CertError}
+use Rattle.cert_text.specs.declared.cert_error.CertError.TheVariants as certificates
 
 -- the fault of names and edges that are no role order
 unfoldable pub order_fault : OrderError → List ℕ
@@ -59,6 +61,13 @@ unfoldable pub members_fault : MembersError → List ℕ
 members_fault (members.BadRow record_number) = codes "BadRow " ++ decimal record_number
 members_fault (members.UnknownRole record_number) = codes "UnknownRole " ++ decimal record_number
 members_fault members.Memory = codes "Memory"
+
+-- the fault of a text that is no certificate text
+unfoldable pub cert_fault : CertError → List ℕ
+cert_fault (certificates.BadLine line) = codes "BadLine " ++ decimal line
+cert_fault (certificates.UnknownRole line) = codes "UnknownRole " ++ decimal line
+cert_fault certificates.Unended = codes "Unended"
+cert_fault certificates.Memory = codes "Memory"
 
 -- the fault of a text of too many bytes
 abbrev pub too_long : List ℕ

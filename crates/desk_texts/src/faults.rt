@@ -4,6 +4,7 @@ ghost use Rattle.std.specs.Prelude.{ℕ, ◌≡◌, ◌++◌, List, OnOk, codes}
 ghost use Rattle.std.specs.Fmt.{decimal};
 ghost use Rattle.desk_texts.specs.Faults as faults;
 
+use cert_text::CertError;
 use cond_text::CondError;
 use policy_text::RunError;
 use profile_set::MembersError;
@@ -58,6 +59,15 @@ impl Fault for MembersError {
 
     fn put(&self, alloc: Global, text: &mut Vec<u8>) -> Result<(), AllocError> {
         put_members_fault(alloc, text, *self)?;
+        Ok(())
+    }
+}
+
+impl Fault for CertError {
+    ghost written = { faults.cert_fault };
+
+    fn put(&self, alloc: Global, text: &mut Vec<u8>) -> Result<(), AllocError> {
+        put_cert_fault(alloc, text, *self)?;
         Ok(())
     }
 }
@@ -234,6 +244,20 @@ pub fn put_members_fault(
             put_count(alloc, text, "UnknownRole ", number as u64)?
         }
         MembersError::Memory => put(text, "Memory")?,
+    }
+    Ok(())
+}
+
+/// Puts the fault of a certificate text behind the text.
+#[tactic(auto, unfolding(crate::specs::Faults::cert_fault))]
+pub fn put_cert_fault(alloc: Global, text: &mut Vec<u8>, error: CertError) -> Result<(), AllocError>
+    ensures { OnOk result (text.new.items ≡ text.old.items ++ faults.cert_fault error) }
+{
+    match error {
+        CertError::BadLine { line } => put_count(alloc, text, "BadLine ", line as u64)?,
+        CertError::UnknownRole { line } => put_count(alloc, text, "UnknownRole ", line as u64)?,
+        CertError::Unended => put(text, "Unended")?,
+        CertError::Memory => put(text, "Memory")?,
     }
     Ok(())
 }

@@ -1,8 +1,11 @@
 //! Each fault and each line, as it is written.
 use crate::{
-    Fault, TooLong, malformed, put_goal_lines, put_part, put_user_lines, read_fault, usage,
+    Fault, TooLong, kind_word, malformed, put_goal_lines, put_part, put_user_lines, put_why,
+    read_fault, usage,
 };
 use arbac_policy::{Part, Side};
+use cert_check::Why;
+use cert_text::{Cert, CertError, Need, Step, StepFrom};
 use cond_text::CondError;
 use policy_text::RunError;
 use profile_set::MembersError;
@@ -65,6 +68,19 @@ const MEMBERS_LINES: &str = "malformed m: BadRow 1
 malformed m: UnknownRole 12
 ";
 
+const OF_CERTIFICATES: [CertError; 3] = [
+    CertError::BadLine {
+        line: 4_294_967_295,
+    },
+    CertError::UnknownRole { line: 3 },
+    CertError::Unended,
+];
+
+const CERTIFICATE_LINES: &str = "malformed c: BadLine 4294967295
+malformed c: UnknownRole 3
+malformed c: Unended
+";
+
 const QUESTION_LINES: &str = "malformed q: NotToml
 malformed q: Missing separate
 malformed q: WrongKind can_assign.3.range
@@ -75,6 +91,22 @@ malformed q: MixedRole exclusive.0
 malformed q: TooMany exclusive 1001
 malformed q: TooWide goal 340282366920938463463374607431768211455
 malformed q: UnknownKey extra
+";
+
+const REASON_LINES: &str = "NotDrawn user 2
+StepRefused act 3 NoAdmin PE1 rule 0
+GoalNotMet
+GoalUncovered goal 1023
+Open need 7 obligation 340282366920938463463374607431768211455
+StartsMet need 0 choice -
+StartsMet need 1 choice 4
+StartsMet need 2 choice 0,0,12
+NotDerived need 65536
+Repeated need 5 by 4
+WrongCount 0
+reachable
+unreachable
+undecided
 ";
 
 const OF_PARTS: [Part; 7] = [
@@ -148,12 +180,16 @@ fn each_fault_has_its_line(rt: HostRuntime) -> Result<(), Fail> {
     for fault in &OF_MEMBERS {
         add_line(alloc, &mut lines, "m", fault)?;
     }
+    for fault in &OF_CERTIFICATES {
+        add_line(alloc, &mut lines, "c", fault)?;
+    }
     for fault in &question_faults(alloc)? {
         add_line(alloc, &mut lines, "q", fault)?;
     }
     let mut wanted = Vec::new(alloc);
     put(&mut wanted, RUN_LINES)?;
     put(&mut wanted, MEMBERS_LINES)?;
+    put(&mut wanted, CERTIFICATE_LINES)?;
     put(&mut wanted, QUESTION_LINES)?;
     assert_eq!(&rt; lines.as_slice(), wanted.as_slice());
     assert_eq!(&rt;
@@ -193,5 +229,75 @@ fn each_part_and_each_user_has_a_line(rt: HostRuntime) -> Result<(), Fail> {
         lines.as_slice(),
         "user 0\nuser 1 PE1\nuser 2 E PE1\ngoal 0 2\ngoal 1 0\n".as_bytes()
     );
+    Ok(())
+}
+
+fn reasons(alloc: Global) -> Result<Vec<Why>, AllocError> {
+    let mut reasons = Vec::new(alloc);
+    reasons.push(Why::NotDrawn { user: 2 })?;
+    reasons.push(Why::StepRefused {
+        place: 3,
+        part: Part::NoAdmin { role: 1, rule: 0 },
+    })?;
+    reasons.push(Why::GoalNotMet)?;
+    reasons.push(Why::GoalUncovered { goal: 1023 })?;
+    let obligation = u128::MAX;
+    reasons.push(Why::Open {
+        need: 7,
+        obligation,
+    })?;
+    for (need, chosen) in [[].as_slice(), &[4], &[0, 0, 12]].iter().enumerate() {
+        let mut choice = Vec::new(alloc);
+        choice.extend_from_slice(*chosen)?;
+        reasons.push(Why::StartsMet {
+            need: need as u32,
+            choice,
+        })?;
+    }
+    reasons.push(Why::NotDerived { place: 65_536 })?;
+    reasons.push(Why::Repeated {
+        place: 5,
+        earlier: 4,
+    })?;
+    reasons.push(Why::WrongCount { count: 0 })?;
+    Ok(reasons)
+}
+
+/// A certificate of each kind.
+fn certificates(alloc: Global) -> Result<Vec<Cert>, AllocError> {
+    let mut certs = Vec::new(alloc);
+    certs.push(Cert::Reachable {
+        start: Vec::new(alloc),
+        acts: Vec::new(alloc),
+    })?;
+    certs.push(Cert::Unreachable {
+        needs: Vec::new(alloc),
+    })?;
+    let users = Vec::new(alloc);
+    certs.push(Cert::Undecided {
+        limit: 1,
+        recorded: Vec::new(alloc),
+        next: Step {
+            origin: StepFrom::Goal { place: 0 },
+            need: Need { users },
+        },
+    })?;
+    Ok(certs)
+}
+
+#[test]
+fn each_kind_and_each_reason_has_its_words(rt: HostRuntime) -> Result<(), Fail> {
+    let alloc = rt.alloc();
+    let order = two_roles(alloc)?;
+    let mut lines = Vec::new(alloc);
+    for why in &reasons(alloc)? {
+        put_why(alloc, &mut lines, &order, why)?;
+        put(&mut lines, "\n")?;
+    }
+    for cert in &certificates(alloc)? {
+        put(&mut lines, kind_word(cert))?;
+        put(&mut lines, "\n")?;
+    }
+    assert_eq!(&rt; lines.as_slice(), REASON_LINES.as_bytes());
     Ok(())
 }
