@@ -1,5 +1,5 @@
 -- Membership of a set with one more role.
-use Rattle.std.proofs.Common.{ℕ, ◌≡◌, ◌∙◌, true, false, List, sym, refl, subst, inl, inr, eqb}
+use Rattle.std.proofs.Common.{ℕ, ◌≡◌, ◌∙◌, true, List, sym, refl, subst, inl, inr, eqb}
 use Rattle.std.specs.Prelude.{◌⊎◌}
 use Rattle.std.proofs.lemmas.Bool.{eq-eqb, eqb-true}
 use Rattle.role_order.specs.Roles.{has_role, with_role}

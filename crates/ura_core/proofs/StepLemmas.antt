@@ -1,10 +1,10 @@
 -- Steps of weak revocations one after another, and why a denied act has no step.
-use Rattle.std.proofs.Common.{ℕ, ◌≡◌, ◌<◌, ◌≤◌, ◌+◌, ◌∙◌, Bool, true, false, eqb, ltb, List, [], ◌∷◌, ◌++◌, length}
-use Rattle.std.proofs.Common.{refl, arith, zero, suc, sym, subst, ap, inl, inr, Some}
-use Rattle.std.specs.Prelude.{◌⊎◌, filter, nat_lt, slice_get, slice_set}
-use Rattle.std.proofs.lemmas.Bool.{eqb-true, eq-eqb, false≢true}
+use Rattle.std.proofs.Common.{ℕ, ◌≡◌, ◌<◌, ◌≤◌, ◌+◌, ◌∙◌, Bool, true, false, eqb, ltb, List, [], ◌∷◌, ◌++◌}
+use Rattle.std.proofs.Common.{refl, arith, sym, subst, ap, inl, inr}
+use Rattle.std.specs.Prelude.{◌⊎◌, filter, nat_lt}
+use Rattle.std.proofs.lemmas.Bool.{eq-eqb, false≢true}
 use Rattle.std.proofs.lemmas.Bool.Decides.{nat_tests}
-use Rattle.list_words.specs.Lists.{Each, Some_of}
+use Rattle.list_words.specs.Lists.{Each}
 use Rattle.role_order.specs.Roles.{has_role, IsIn, Rises}
 use Rattle.role_order.proofs.SetLemmas.{has_role-above}
 use Rattle.list_words.proofs.TestLemmas.{or_right}

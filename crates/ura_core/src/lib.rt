@@ -5,6 +5,7 @@ mod criterion;
 mod decision;
 mod judging;
 mod laws;
+mod placed;
 mod searching;
 mod strong;
 #[cfg(test)]

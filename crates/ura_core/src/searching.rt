@@ -5,12 +5,14 @@ ghost use Rattle.list_words.specs.Lists.{Each, Some_of, IsFirst};
 ghost use Rattle.role_order.specs.Ranges.{IsInRange};
 ghost use Rattle.role_order.specs.Roles.{with_role};
 ghost use Rattle.arbac_policy.specs.Truth.{IsMember};
-ghost use Rattle.arbac_policy.specs.Rules.{IsKnownRange, IsKnownAssign, IsKnownRevoke, IsKnownPair};
+ghost use Rattle.arbac_policy.specs.Rules.{IsKnownAssign, IsKnownRevoke, IsKnownPair};
 ghost use Rattle.arbac_policy.specs.Holders.{assign_rules, revoke_rules};
 ghost use Rattle.arbac_policy.specs.Steps.{Blocks, LetsAssign, LetsRevoke};
 ghost use Rattle.arbac_policy.specs.Verdicts.{FitsRule};
+ghost use Rattle.ura_core.specs.Placed.{IsPlaced};
 
 use crate::criterion::{Criterion, first_met, some_met};
+use crate::placed::Placed;
 use arbac_policy::{CanAssign, CanRevoke, On, Policy, is_member, is_true};
 use role_order::{Order, Range, RoleSet};
 
@@ -41,43 +43,42 @@ fn revoke_of(on: On, policy: &Policy) -> &[CanRevoke]
 }
 
 /// Whether the range has the role and the administrator has the rule's administrative role.
-fn fits(policy: &Policy, range: &Range, admin: u16, by: &RoleSet, role: u16) -> bool
-    requires range { IsKnownRange (length policy.now.order.names) range.now }
+fn fits(policy: &Policy, range: &Range, admin: u16, by: &RoleSet, placed: &Placed) -> bool
     requires admin { admin < length policy.now.order.names }
-    requires role { role < length policy.now.order.names }
-    ensures { IsTrue result ↔ FitsRule policy.now by.now role range.now admin }
+    requires placed { IsPlaced policy.now.order placed.now.role placed.now.above placed.now.below }
+    ensures { IsTrue result ↔ FitsRule policy.now by.now placed.now.role range.now admin }
 {
-    policy.order().in_range(range, role) && is_member(policy.order(), by, admin)
+    placed.is_in(range) && is_member(policy.order(), by, admin)
 }
 
 /// A rule whose range has the role.
 #[derive(Clone, Copy)]
 struct InRange<'a> {
     policy: &'a Policy,
-    role: u16,
+    placed: Placed,
 }
 
 impl<'a> Criterion<CanAssign> for InRange<'a> {
-    ghost ready = { λ s. s.role < length s.policy.now.order.names };
+    ghost ready = { λ s. IsPlaced s.policy.now.order s.placed.role s.placed.above s.placed.below };
 
     ghost known = { λ s rule. IsKnownAssign (length s.policy.now.order.names) rule };
 
-    ghost met = { λ s rule. IsInRange s.policy.now.order rule.range s.role };
+    ghost met = { λ s rule. IsInRange s.policy.now.order rule.range s.placed.role };
 
     fn is_met(&self, rule: &CanAssign) -> bool {
-        self.policy.order().in_range(&rule.range, self.role)
+        self.placed.is_in(&rule.range)
     }
 }
 
 impl<'a> Criterion<CanRevoke> for InRange<'a> {
-    ghost ready = { λ s. s.role < length s.policy.now.order.names };
+    ghost ready = { λ s. IsPlaced s.policy.now.order s.placed.role s.placed.above s.placed.below };
 
     ghost known = { λ s rule. IsKnownRevoke (length s.policy.now.order.names) rule };
 
-    ghost met = { λ s rule. IsInRange s.policy.now.order rule.range s.role };
+    ghost met = { λ s rule. IsInRange s.policy.now.order rule.range s.placed.role };
 
     fn is_met(&self, rule: &CanRevoke) -> bool {
-        self.policy.order().in_range(&rule.range, self.role)
+        self.placed.is_in(&rule.range)
     }
 }
 
@@ -86,30 +87,30 @@ impl<'a> Criterion<CanRevoke> for InRange<'a> {
 struct Fitting<'a> {
     policy: &'a Policy,
     by: &'a RoleSet,
-    role: u16,
+    placed: Placed,
 }
 
 impl<'a> Criterion<CanAssign> for Fitting<'a> {
-    ghost ready = { λ s. s.role < length s.policy.now.order.names };
+    ghost ready = { λ s. IsPlaced s.policy.now.order s.placed.role s.placed.above s.placed.below };
 
     ghost known = { λ s rule. IsKnownAssign (length s.policy.now.order.names) rule };
 
-    ghost met = { λ s rule. FitsRule s.policy.now s.by.now s.role rule.range rule.admin };
+    ghost met = { λ s rule. FitsRule s.policy.now s.by.now s.placed.role rule.range rule.admin };
 
     fn is_met(&self, rule: &CanAssign) -> bool {
-        fits(self.policy, &rule.range, rule.admin, self.by, self.role)
+        fits(self.policy, &rule.range, rule.admin, self.by, &self.placed)
     }
 }
 
 impl<'a> Criterion<CanRevoke> for Fitting<'a> {
-    ghost ready = { λ s. s.role < length s.policy.now.order.names };
+    ghost ready = { λ s. IsPlaced s.policy.now.order s.placed.role s.placed.above s.placed.below };
 
     ghost known = { λ s rule. IsKnownRevoke (length s.policy.now.order.names) rule };
 
-    ghost met = { λ s rule. LetsRevoke s.policy.now s.by.now s.role rule };
+    ghost met = { λ s rule. LetsRevoke s.policy.now s.by.now s.placed.role rule };
 
     fn is_met(&self, rule: &CanRevoke) -> bool {
-        fits(self.policy, &rule.range, rule.admin, self.by, self.role)
+        fits(self.policy, &rule.range, rule.admin, self.by, &self.placed)
     }
 }
 
@@ -122,11 +123,11 @@ struct Letting<'a> {
 }
 
 impl<'a> Criterion<CanAssign> for Letting<'a> {
-    ghost ready = { λ s. s.fitting.role < length s.fitting.policy.now.order.names };
+    ghost ready = { λ s. IsPlaced s.fitting.policy.now.order s.fitting.placed.role s.fitting.placed.above s.fitting.placed.below };
 
     ghost known = { λ s rule. IsKnownAssign (length s.fitting.policy.now.order.names) rule };
 
-    ghost met = { λ s rule. LetsAssign s.on s.fitting.policy.now s.fitting.by.now s.set.now s.fitting.role rule };
+    ghost met = { λ s rule. LetsAssign s.on s.fitting.policy.now s.fitting.by.now s.set.now s.fitting.placed.role rule };
 
     fn is_met(&self, rule: &CanAssign) -> bool {
         self.fitting.is_met(rule)
@@ -139,7 +140,8 @@ pub fn some_assign(on: On, policy: &Policy, by: &RoleSet, set: &RoleSet, role: u
     requires { role < length policy.now.order.names }
     ensures { IsTrue result ↔ Some_of (LetsAssign on policy.now by.now set.now role) (assign_rules on policy.now) }
 {
-    let fitting = Fitting { policy, by, role };
+    let placed = Placed::new(policy.order(), role);
+    let fitting = Fitting { policy, by, placed };
     some_met(&Letting { on, fitting, set }, assign_of(on, policy))
 }
 
@@ -148,7 +150,8 @@ pub fn some_revoke(on: On, policy: &Policy, by: &RoleSet, role: u16) -> bool
     requires { role < length policy.now.order.names }
     ensures { IsTrue result ↔ Some_of (LetsRevoke policy.now by.now role) (revoke_rules on policy.now) }
 {
-    some_met(&Fitting { policy, by, role }, revoke_of(on, policy))
+    let placed = Placed::new(policy.order(), role);
+    some_met(&Fitting { policy, by, placed }, revoke_of(on, policy))
 }
 
 /// The first rule for giving roles whose range has the role.
@@ -157,7 +160,8 @@ pub fn assign_in_range(on: On, policy: &Policy, role: u16) -> Option<u32>
     ensures found { IfSome result (IsFirst (λ rule. IsInRange policy.now.order rule.range role) (assign_rules on policy.now)) }
     ensures none { IfNone result (¬ Some_of (λ rule. IsInRange policy.now.order rule.range role) (assign_rules on policy.now)) }
 {
-    first_met(&InRange { policy, role }, assign_of(on, policy))
+    let placed = Placed::new(policy.order(), role);
+    first_met(&InRange { policy, placed }, assign_of(on, policy))
 }
 
 /// The first rule for giving roles whose range has the role and whose administrative role the administrator has.
@@ -166,7 +170,8 @@ pub fn assign_fitting(on: On, policy: &Policy, by: &RoleSet, role: u16) -> Optio
     ensures found { IfSome result (IsFirst (λ rule. FitsRule policy.now by.now role rule.range rule.admin) (assign_rules on policy.now)) }
     ensures none { IfNone result (¬ Some_of (λ rule. FitsRule policy.now by.now role rule.range rule.admin) (assign_rules on policy.now)) }
 {
-    first_met(&Fitting { policy, by, role }, assign_of(on, policy))
+    let placed = Placed::new(policy.order(), role);
+    first_met(&Fitting { policy, by, placed }, assign_of(on, policy))
 }
 
 /// The first rule for taking roles away whose range has the role.
@@ -175,7 +180,8 @@ pub fn revoke_in_range(on: On, policy: &Policy, role: u16) -> Option<u32>
     ensures found { IfSome result (IsFirst (λ rule. IsInRange policy.now.order rule.range role) (revoke_rules on policy.now)) }
     ensures none { IfNone result (¬ Some_of (λ rule. IsInRange policy.now.order rule.range role) (revoke_rules on policy.now)) }
 {
-    first_met(&InRange { policy, role }, revoke_of(on, policy))
+    let placed = Placed::new(policy.order(), role);
+    first_met(&InRange { policy, placed }, revoke_of(on, policy))
 }
 
 /// Whether a user with the set is a member of the other role once he has the role.
