@@ -10,6 +10,12 @@ use Rattle.arbac_desk.specs.declared.reply.Reply.{Reply}
 use Rattle.arbac_desk.specs.Statuses.{USAGE, WRITE_FAULT, NO_MEMORY, IsStatus}
 use Rattle.arbac_desk.specs.Answers.{Says, IsOf, IsUsageAnswer}
 
+-- a reply of this status and this text is as these are
+pub replied_as : (P : ℕ → List ℕ → Type 0) (status : ℕ) (text : List ℕ) (reply : Result Reply AllocError) → IfOk reply (λ r. r.status ≡ status)
+    → IfOk reply (λ r. r.text.items ≡ text) → P status text → IfOk reply (λ r. P r.status r.text.items)
+replied_as P status text (Ok reply) told all h = rw (told, all) h
+replied_as P status text (Err error) told all h = tt
+
 -- what was to be written may be told in other words
 pub says_as : (P Q : ℕ → List ℕ → Type 0) (sink sink' : SinkView) (status : ℕ)
     → ((told : ℕ) (text : List ℕ) → P told text → Q told text) → Says P sink sink' status → Says Q sink sink' status

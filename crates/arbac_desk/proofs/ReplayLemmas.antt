@@ -14,6 +14,7 @@ use Rattle.arbac_desk.specs.declared.reply.Reply.{Reply}
 use Rattle.arbac_desk.specs.Statuses.{READ_FAULT, WRITE_FAULT, NO_MEMORY, IsStatus}
 use Rattle.arbac_desk.specs.Answers.{TellsFaults, IsFaultless, AreTold, HasFetched, HasMissed, Says, IsOf}
 use Rattle.arbac_desk.specs.ReplayAnswers.{IsDone, IsUnmet, IsStopped, IsMalformed, IsNoRun, IsReplyTo, IsReplied, IsReplayReply, IsReplayAnswer, IsRunText}
+use Rattle.arbac_desk.proofs.FetchLemmas.{whole, longer}
 use Rattle.arbac_desk.proofs.AnswerLemmas.{says_as, of_reply, wanted, sink_rose, sink_stands, is_status}
 use Rattle.policy_text.specs.declared.run_error.RunError.{RunError}
 use Rattle.policy_text.specs.declared.run_error.RunError.TheVariants as runs
@@ -44,37 +45,18 @@ first_fault bytes (TooMany at) refused told = refused
 first_fault bytes Unended refused told = refused
 first_fault bytes Memory refused told = absurd (told refl)
 
-take_short : (xs : List ℕ) (n : ℕ) → length (take (suc n) xs) ≤ n → take (suc n) xs ≡ xs
-take_short [] n l = refl
-take_short (x ∷ xs) zero l = absurd (omega arith)
-take_short (x ∷ xs) (suc n) l = ap (λ t. x ∷ t) (take_short xs n (omega arith))
-
-take_less : (xs : List ℕ) (n : ℕ) → length (take n xs) ≤ length xs
-take_less xs zero = omega arith
-take_less [] (suc n) = omega arith
-take_less (x ∷ xs) (suc n) = omega (arith, take_less xs n)
-
--- bytes that are few enough are all that the file holds
-whole : (all bytes : List ℕ) → bytes ≡ take (MOST_RUN_BYTES + 1) all → length bytes ≤ MOST_RUN_BYTES → bytes ≡ all
-whole all bytes e l =
-    let e' : bytes ≡ take (suc MOST_RUN_BYTES) all = e in
-    let few : length (take (suc MOST_RUN_BYTES) all) ≤ MOST_RUN_BYTES = subst (λ b. length b ≤ MOST_RUN_BYTES) e' l in
-    e' ∙ take_short all MOST_RUN_BYTES few
-
 -- the reply to what was fetched is the reply to what the file holds
 replied : (name all bytes : List ℕ) (status : ℕ) (text : List ℕ) → bytes ≡ take (MOST_RUN_BYTES + 1) all → IsReplyTo name bytes status text
     → IsReplyTo name all status text
-replied name all bytes status text e (inl (told, h)) = inl (told, subst (λ b. IsDone b text) (whole all bytes e h.ends.few) h)
-replied name all bytes status text e (inr (inl (told, inl h))) = inr (inl (told, inl (subst (λ b. IsUnmet b text) (whole all bytes e h.ends.few) h)))
-replied name all bytes status text e (inr (inl (told, inr h))) = inr (inl (told, inr (subst (λ b. IsStopped b text) (whole all bytes e h.few) h)))
+replied name all bytes status text e (inl (told, h)) = inl (told, subst (λ b. IsDone b text) (whole MOST_RUN_BYTES all bytes e h.ends.few) h)
+replied name all bytes status text e (inr (inl (told, inl h))) = inr (inl (told, inl (subst (λ b. IsUnmet b text) (whole MOST_RUN_BYTES all bytes e h.ends.few) h)))
+replied name all bytes status text e (inr (inl (told, inr h))) = inr (inl (told, inr (subst (λ b. IsStopped b text) (whole MOST_RUN_BYTES all bytes e h.few) h)))
 replied name all bytes status text e (inr (inr (told, inl h))) =
-    let less = take_less all (MOST_RUN_BYTES + 1) in
-    let same : length bytes ≡ length (take (MOST_RUN_BYTES + 1) all) = ap length e in
-    inr (inr (told, inl (omega (arith, h.0, less, same), h.1)))
+    inr (inr (told, inl (longer MOST_RUN_BYTES all bytes e h.0, h.1)))
 replied name all bytes status text e (inr (inr (told, inr h))) =
     let IsTold : List ℕ → Type 0 = λ b. (length b ≤ MOST_RUN_BYTES) × (fault : RunError) × IsNoRun b fault
     × (text ≡ malformed_line name (run_fault fault)) in
-    inr (inr (told, inr (subst IsTold (whole all bytes e h.0) h)))
+    inr (inr (told, inr (subst IsTold (whole MOST_RUN_BYTES all bytes e h.0) h)))
 
 -- it is one to bytes that the shelf tells, if it tells any
 pub held : (name bytes : List ℕ) (status : ℕ) (text : List ℕ) (told : Option (List ℕ)) → IfSome told (λ all. bytes ≡ take (MOST_RUN_BYTES + 1) all)

@@ -3,7 +3,7 @@ use Rattle.std.specs.Prelude.{ℕ, ◌≡◌, ◌≢◌, ◌⊎◌, List, Option
 use Rattle.desk_ports.specs.Faults.{raised, Rose}
 use Rattle.desk_ports.specs.Shelves.{ShelfView}
 use Rattle.desk_ports.specs.Sinks.{SinkView, Took, TookFront}
-use Rattle.desk_texts.specs.Lines.{usage_line}
+use Rattle.desk_texts.specs.Lines.{usage_line, read_fault_line}
 use Rattle.std.specs.declared.alloc.AllocError.{AllocError}
 use Rattle.arbac_desk.specs.declared.reply.Reply.{Reply}
 use Rattle.arbac_desk.specs.Statuses.{USAGE, READ_FAULT, WRITE_FAULT, NO_MEMORY}
@@ -33,6 +33,12 @@ pub record HasFetched (shelf shelf' : ShelfView) : Type 0 where
 pub record HasMissed (shelf shelf' : ShelfView) (name : List ℕ) : Type 0 where
   pub counted : shelf'.faults ≡ raised shelf.faults
   pub missed : shelf'.missed ≡ name
+
+-- the file couldn't be read
+pub record IsUnread (name : List ℕ) (shelf shelf' : ShelfView) (status : ℕ) (text : List ℕ) : Type 0 where
+  pub told : status ≡ READ_FAULT
+  pub missed : HasMissed shelf shelf' name
+  pub text_is : text ≡ read_fault_line name
 
 -- the status and the text are those of the reply, where there is one
 abbrev pub IsOf : Result Reply AllocError → ℕ → List ℕ → Type 0

@@ -14,10 +14,10 @@ use Rattle.plan_replay.specs.GoalLists.{AreLeast}
 use Rattle.desk_ports.specs.Shelves.{ShelfView}
 use Rattle.desk_ports.specs.Sinks.{SinkView}
 use Rattle.desk_texts.specs.Faults.{run_fault, too_long}
-use Rattle.desk_texts.specs.Lines.{malformed_line, read_fault_line}
+use Rattle.desk_texts.specs.Lines.{malformed_line}
 use Rattle.arbac_desk.specs.declared.TheConstants.{MOST_RUN_BYTES}
-use Rattle.arbac_desk.specs.Statuses.{DONE, MALFORMED, READ_FAULT, REFUSED}
-use Rattle.arbac_desk.specs.Answers.{AreTold, HasFetched, HasMissed, Says}
+use Rattle.arbac_desk.specs.Statuses.{DONE, MALFORMED, REFUSED}
+use Rattle.arbac_desk.specs.Answers.{AreTold, HasFetched, HasMissed, IsUnread, Says}
 use Rattle.arbac_desk.specs.ReplayTexts.{done_text, unmet_text, stopped_text}
 
 -- the bytes, few enough, are a run text, and its acts are a run from its users to these sets
@@ -74,12 +74,6 @@ IsReplyTo name bytes status text =
     ((status ≡ DONE) × IsDone bytes text)
     ⊎ (((status ≡ REFUSED) × (IsUnmet bytes text ⊎ IsStopped bytes text))
     ⊎ ((status ≡ MALFORMED) × IsMalformed name bytes text))
-
--- the file couldn't be read
-pub record IsUnread (name : List ℕ) (shelf shelf' : ShelfView) (status : ℕ) (text : List ℕ) : Type 0 where
-  pub told : status ≡ READ_FAULT
-  pub missed : HasMissed shelf shelf' name
-  pub text_is : text ≡ read_fault_line name
 
 -- the file was read, and its bytes have this reply
 pub record IsReplied (name : List ℕ) (shelf shelf' : ShelfView) (status : ℕ) (text : List ℕ) : Type 0 where

@@ -2,7 +2,7 @@
 use Rattle.std.specs.Prelude.{ℕ, [], ◌∷◌}
 use Rattle.list_words.specs.Lists.{IsOneOf}
 
--- all acts were accepted, and the goal is met
+-- all acts were accepted, and the goal is met; or the certificate has its property
 abbrev pub DONE : ℕ
 DONE = 0
 
@@ -26,7 +26,7 @@ WRITE_FAULT = 5
 abbrev pub NO_MEMORY : ℕ
 NO_MEMORY = 7
 
--- an act was refused, or the goal isn't met
+-- an act was refused, or the goal isn't met; or the certificate hasn't its property
 abbrev pub REFUSED : ℕ
 REFUSED = 21
 

@@ -3,15 +3,16 @@
 ghost use Rattle.std.specs.Prelude.{ℕ, ◌≡◌, ◌⊎◌, List, IfSome};
 ghost use Rattle.role_order.specs.Names.{texts};
 ghost use Rattle.arbac_desk.specs.Statuses.{IsStatus};
-ghost use Rattle.arbac_desk.specs.Commands.{Form, replay, form_of, AreWordsOf, AreOfNoForm};
+ghost use Rattle.arbac_desk.specs.Commands.{Form, replay, check, form_of, AreWordsOf, AreOfNoForm};
 ghost use Rattle.arbac_desk.specs.Answers.{TellsFaults, IsFaultless, IsUsageAnswer};
 ghost use Rattle.arbac_desk.specs.ReplayAnswers.{IsReplayAnswer, IsRunText};
+ghost use Rattle.arbac_desk.specs.CheckAnswers.{IsCheckAnswer, AreCheckTexts};
 ghost use Rattle.arbac_desk.specs.CommandAnswers.{IsAnswerTo};
 
 use crate::command::{Command, read_command};
 use crate::reply::say;
 use crate::status::{Status, USAGE};
-use crate::{MOST_RUN_BYTES, replay};
+use crate::{MOST_CERT_BYTES, MOST_QUESTION_BYTES, MOST_RUN_BYTES, check, replay};
 use desk_ports::{Shelf, Sink};
 use desk_texts::usage;
 use std::alloc::Global;
@@ -29,6 +30,7 @@ fn answer_command<H: Shelf, O: Sink>(
 {
     match command {
         Command::Replay { run } => replay::answer(alloc, run, shelf, out),
+        Command::Check { question, cert } => check::answer(alloc, question, cert, shelf, out),
     }
 }
 
@@ -49,7 +51,7 @@ fn answer<H: Shelf, O: Sink>(alloc: Global, words: &[String], shelf: &mut H, out
 }
 
 /// Does all that the program does: answers the words, reads from the shelf, writes to the sink, and gives
-/// the status. The one written form is `replay RUN`.
+/// the status. The written forms are `replay RUN` and `check QUESTION CERT`.
 pub fn arbac_desk<H: Shelf, O: Sink>(
     alloc: Global,
     words: &[String],
@@ -78,12 +80,30 @@ pub fn arbac_desk<H: Shelf, O: Sink>(
         × (¬ IsRunText bytes → IsFaultless (H.seen shelf.old) (H.seen shelf.new) (O.seen out.old) (O.seen out.new) →
         (result ≡ 3) ⊎ (result ≡ 7))) }
 
+    // `check QUESTION CERT`: whether the certificate shows what it says of the question.
+    ensures check { (question cert : List ℕ) → AreWordsOf (texts words.now) (check question cert) →
+        IsCheckAnswer question cert (H.seen shelf.old) (H.seen shelf.new) (O.seen out.old) (O.seen out.new) result }
+
+    // Its texts are judged, where no count rose and memory was left.
+    ensures judged { (question cert : List ℕ) → AreWordsOf (texts words.now) (check question cert) →
+        IfSome ((H.seen shelf.old).told question) (λ bytes. IfSome ((H.seen shelf.old).told cert) (λ cert_bytes.
+        AreCheckTexts bytes cert_bytes → IsFaultless (H.seen shelf.old) (H.seen shelf.new) (O.seen out.old) (O.seen out.new) →
+        (result ≡ 0) ⊎ ((result ≡ 21) ⊎ (result ≡ 7)))) }
+
+    // Bytes that are too many, or no such texts, are refused as such, and no others are.
+    ensures unjudged { (question cert : List ℕ) → AreWordsOf (texts words.now) (check question cert) →
+        IfSome ((H.seen shelf.old).told question) (λ bytes. IfSome ((H.seen shelf.old).told cert) (λ cert_bytes.
+        (result ≡ 3 → ¬ AreCheckTexts bytes cert_bytes)
+        × (¬ AreCheckTexts bytes cert_bytes → IsFaultless (H.seen shelf.old) (H.seen shelf.new) (O.seen out.old) (O.seen out.new) →
+        (result ≡ 3) ⊎ (result ≡ 7)))) }
+
     // Whatever the words: a fault is told only where its count rose, and no count rises untold.
     ensures faults { TellsFaults (H.seen shelf.old) (H.seen shelf.new) (O.seen out.old) (O.seen out.new) result }
     ensures known { IsStatus result }
 
-    // The limit by number.
+    // The limits by number.
     ensures limit { MOST_RUN_BYTES ≡ 1048576 }
+    ensures limits { (MOST_QUESTION_BYTES ≡ 1048576) × (MOST_CERT_BYTES ≡ 268435456) }
 {
     answer(alloc, words, shelf, out)
 }

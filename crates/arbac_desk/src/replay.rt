@@ -5,7 +5,6 @@ ghost use Rattle.list_words.specs.Lists.{Each};
 ghost use Rattle.arbac_policy.specs.Truth.{term_of, IsKnown};
 ghost use Rattle.policy_text.specs.Runs.{StandsFor, plain_of, IsForUsers};
 ghost use Rattle.policy_text.specs.declared.run_error.RunError.TheVariants as runs;
-ghost use Rattle.desk_texts.specs.Lines.{read_fault_line};
 ghost use Rattle.arbac_desk.specs.Statuses.{IsStatus};
 ghost use Rattle.arbac_desk.specs.Answers.{TellsFaults, HasFetched, HasMissed};
 ghost use Rattle.arbac_desk.specs.ReplayAnswers.{EndsAt, IsReplyTo, IsReplayReply, IsReplayAnswer};
@@ -13,10 +12,10 @@ ghost use Rattle.arbac_desk.specs.ReplayAnswers.{EndsAt, IsReplyTo, IsReplayRepl
 mod texts;
 
 use crate::MOST_RUN_BYTES;
-use crate::reply::{Reply, say_reply};
-use crate::status::{DONE, MALFORMED, READ_FAULT, REFUSED, Status};
+use crate::reply::{Reply, reply_malformed, reply_unread, say_reply};
+use crate::status::{DONE, REFUSED, Status};
 use desk_ports::{Shelf, ShelfError, Sink};
-use desk_texts::{TooLong, malformed, read_fault};
+use desk_texts::TooLong;
 use plan_replay::{Replayed, goal_met, replay};
 use policy_text::{Run, RunError, read_run};
 use role_order::RoleSet;
@@ -85,11 +84,7 @@ fn reply_to(alloc: Global, name: &str, bytes: &[u8]) -> Result<Reply, AllocError
     ensures { IfOk result (λ reply. IsReplyTo name.now bytes.now reply.status reply.text.items) }
 {
     if bytes.len() > MOST_RUN_BYTES {
-        let text = malformed(alloc, name, &TooLong)?;
-        return Ok(Reply {
-            status: MALFORMED,
-            text,
-        });
+        return reply_malformed(alloc, name, &TooLong);
     }
     match read_run(alloc, bytes) {
         Ok(run) => reply_to_run(alloc, bytes, &run),
@@ -97,25 +92,9 @@ fn reply_to(alloc: Global, name: &str, bytes: &[u8]) -> Result<Reply, AllocError
             if is_memory(error) {
                 return Err(AllocError);
             }
-            let text = malformed(alloc, name, &error)?;
-            Ok(Reply {
-                status: MALFORMED,
-                text,
-            })
+            reply_malformed(alloc, name, &error)
         }
     }
-}
-
-/// The reply where the file of this name couldn't be read.
-fn reply_unread(alloc: Global, name: &str) -> Result<Reply, AllocError>
-    ensures status { IfOk result (λ reply. reply.status ≡ 4) }
-    ensures text { IfOk result (λ reply. reply.text.items ≡ read_fault_line name.now) }
-{
-    let text = read_fault(alloc, name)?;
-    Ok(Reply {
-        status: READ_FAULT,
-        text,
-    })
 }
 
 /// The reply to the file of this name.

@@ -1,5 +1,6 @@
 //! The top call over a shelf and a sink in memory: run texts, other words, and calls that fail.
 
+mod judged;
 mod rows;
 
 use crate::{MOST_RUN_BYTES, Status, arbac_desk};
