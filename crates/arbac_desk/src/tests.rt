@@ -23,7 +23,7 @@ struct Row {
 const USAGE: &str =
     "usage: ask QUESTION | check QUESTION CERT | replay RUN | load QUESTION | import MEMBERS | report KIND | serve --connections N | make N\n";
 
-const ROWS: [Row; 12] = [
+const ROWS: [Row; 14] = [
     Row {
         words: &[],
         acts: "end\n",
@@ -58,6 +58,22 @@ const ROWS: [Row; 12] = [
     },
     Row {
         words: &["replay", "r.txt", "r.txt"],
+        acts: "goal c\nend\n",
+        shelf_fails: 0,
+        sink_fails: 0,
+        status: 2,
+        output: USAGE,
+    },
+    Row {
+        words: &["check", "r.txt"],
+        acts: "goal c\nend\n",
+        shelf_fails: 0,
+        sink_fails: 0,
+        status: 2,
+        output: USAGE,
+    },
+    Row {
+        words: &["check", "r.txt", "-c"],
         acts: "goal c\nend\n",
         shelf_fails: 0,
         sink_fails: 0,

@@ -169,6 +169,8 @@ end
 refused StepRefused act 0 NoCondition a rule 0
 "#;
 
+const WORDS: &[&'static str] = &["check", "q.toml", "c.txt"];
+
 /// The status of these words over the two texts, and behind a line feed what is written.
 fn answer_to(
     alloc: Global,
@@ -201,7 +203,7 @@ fn each_judged(
         let (rest, told) = row.split_once(" => ").ok_or("a row has no answer")?;
         let question = text_of(alloc, question, most.as_bytes())?;
         let cert = text_of(alloc, "arbac certificate 1\n", rest.as_bytes())?;
-        let answer = answer_to(alloc, &["check", "q.toml", "c.txt"], question, cert, 0)?;
+        let answer = answer_to(alloc, WORDS, question, cert, 0)?;
         assert_eq!(rt; answer.as_slice(), told.as_bytes(), "{rest}");
     }
     Ok(())
@@ -220,69 +222,39 @@ fn each_certificate_has_its_answer(rt: HostRuntime) -> Result<(), Fail> {
     Ok(())
 }
 
-/// Words over a question and an empty certificate, the number of the fetch that fails, and the answer.
-const OTHERS: [(&[&'static str], &str, u64, &str); 6] = [
+/// A question beside an empty certificate, the number of the fetch that fails, and the answer.
+const OTHERS: [(&str, u64, &str); 6] = [
+    (MIXED, 0, "3\nmalformed q.toml: NotToml\n"),
     (
-        &["check", "q.toml", "c.txt"],
-        MIXED,
-        0,
-        "3\nmalformed q.toml: NotToml\n",
-    ),
-    (
-        &["check", "q.toml", "c.txt"],
         "version = 1\nseparate = false\nroles = [\"a\"]\n",
         0,
         "3\nmalformed q.toml: Missing goal\n",
     ),
-    (
-        &["check", "q.toml", "c.txt"],
-        GIVEN_TWICE,
-        0,
-        "3\nmalformed c.txt: Unended\n",
-    ),
-    (
-        &["check", "q.toml", "c.txt"],
-        GIVEN_TWICE,
-        1,
-        "4\nread fault: q.toml\n",
-    ),
-    (
-        &["check", "q.toml", "c.txt"],
-        GIVEN_TWICE,
-        2,
-        "4\nread fault: c.txt\n",
-    ),
-    (
-        &["check", "q.toml", "c"],
-        "goal = []",
-        2,
-        "3\nmalformed q.toml: Missing version\n",
-    ),
+    (GIVEN_TWICE, 0, "3\nmalformed c.txt: Unended\n"),
+    (GIVEN_TWICE, 1, "4\nread fault: q.toml\n"),
+    (GIVEN_TWICE, 2, "4\nread fault: c.txt\n"),
+    ("goal = []", 2, "3\nmalformed q.toml: Missing version\n"),
 ];
 
 #[test]
 fn texts_that_arent_read_are_told(rt: HostRuntime) -> Result<(), Fail> {
     let alloc = rt.alloc();
-    for (words, question, shelf_fails, told) in OTHERS {
+    for (question, shelf_fails, told) in OTHERS {
         let question = text_of(alloc, question, b"")?;
-        let answer = answer_to(alloc, words, question, Vec::new(alloc), shelf_fails)?;
+        let answer = answer_to(alloc, WORDS, question, Vec::new(alloc), shelf_fails)?;
         assert_eq!(rt; answer.as_slice(), told.as_bytes(), "at {told}");
     }
-    let long = vec![in alloc; b' '; MOST_QUESTION_BYTES + 1]?;
-    let words = ["check", "q.toml", "c.txt"];
-    let answer = answer_to(alloc, &words, long, Vec::new(alloc), 0)?;
+    Ok(())
+}
+
+#[test]
+fn a_question_that_is_too_long_is_malformed(rt: HostRuntime) -> Result<(), Fail> {
+    let alloc = rt.alloc();
+    let question = vec![in alloc; b' '; MOST_QUESTION_BYTES + 1]?;
+    let answer = answer_to(alloc, WORDS, question, Vec::new(alloc), 0)?;
     assert_eq!(rt;
         answer.as_slice(),
-        b"3\nmalformed q.toml: TooLong\n".as_slice()
+        "3\nmalformed q.toml: TooLong\n".as_bytes()
     );
-    for words in [
-        ["check", "q.toml", "-c"],
-        ["check", "", "c.txt"],
-        ["chek", "q.toml", "c.txt"],
-    ] {
-        let question = text_of(alloc, GIVEN_TWICE, b"")?;
-        let answer = answer_to(alloc, &words, question, Vec::new(alloc), 0)?;
-        assert!(rt; answer.starts_with(b"2\nusage: "));
-    }
     Ok(())
 }
