@@ -1,13 +1,15 @@
 //! Questions and certificates as texts, each with the judgement as a line.
 
+mod questions;
 mod rows;
 
 use crate::{Judgement, Why, check};
 use cert_text::read_cert;
 use question_text::read_question;
+use questions::{BARRED, ENG, GIVERS, HEIRS, MANY, MIX, ONE, ORS, SELF, TWO};
 use rows::{
-    BARRED, BIG, CLOSED, ENG, GIVERS, HEIRS, LACKS, MANY, MIX, NEW, OF_BARRED, OF_ENG, OF_GIVERS,
-    OF_HEIRS, OF_MANY, OF_MIX_1, OF_MIX_2, OF_ORS, OF_SELF, OF_TWO, ORS, PLANS_OF_MIX_2, SELF, TWO,
+    BEGUN, CLOSED, LACKS, OF_BARRED, OF_ENG, OF_GIVERS, OF_HEIRS, OF_MANY, OF_MIX_1, OF_MIX_2,
+    OF_ONE, OF_ORS, OF_SELF, OF_TWO, PLANS_OF_MIX_2, STEPS_OF_GIVERS,
 };
 use std::alloc::{AllocError, Global};
 use std::process::Abort;
@@ -63,6 +65,7 @@ fn plans_are_judged(rt: HostRuntime) -> Result<(), Fail> {
     let mix = with_most(alloc, MIX, 2)?;
     each_judged(&rt, alloc, &mix, PLANS_OF_MIX_2)?;
     each_judged(&rt, alloc, SELF, OF_SELF)?;
+    each_judged(&rt, alloc, ONE, OF_ONE)?;
     each_judged(&rt, alloc, TWO, OF_TWO)
 }
 
@@ -92,10 +95,10 @@ fn steps_are_judged(rt: HostRuntime) -> Result<(), Fail> {
     let mix = with_most(alloc, MIX, 2)?;
     each_judged(&rt, alloc, &mix, OF_MIX_2)?;
     let givers = with_most(alloc, GIVERS, 0)?;
-    each_judged(&rt, alloc, &givers, NEW)
+    each_judged(&rt, alloc, &givers, STEPS_OF_GIVERS)
 }
 
-/// More users than the index has bits for.
+/// More users are wanted than the test of the index takes.
 #[test]
 fn long_needs_are_judged(rt: HostRuntime) -> Result<(), Fail> {
     let alloc = rt.alloc();
@@ -104,7 +107,7 @@ fn long_needs_are_judged(rt: HostRuntime) -> Result<(), Fail> {
     for _ in 0..129 {
         lacks.push_str(LACKS)?;
     }
-    let open = format!(in alloc; "{BIG}{lacks}{LACKS}need\nuser hit c\n")?;
+    let open = format!(in alloc; "{BEGUN}{lacks}{LACKS}need\nuser hit c\n")?;
     let line = judged(alloc, &mix, &open)?;
     assert_eq!(rt; line.as_str(), "Open 0 0");
     let longer = format!(in alloc; "{open}need\n{lacks}user hit adm\n")?;

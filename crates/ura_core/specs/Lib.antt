@@ -1,3 +1,4 @@
 pub mod Judged
 pub mod Answers
 pub mod Placed
+pub mod Searched

@@ -8,25 +8,31 @@ ghost use Rattle.arbac_policy.specs.Steps.{Blocks, LetsAssign, LetsRevoke};
 ghost use Rattle.arbac_policy.specs.Verdicts.{AssignFails, RevokeFails};
 ghost use Rattle.ura_core.specs.Judged.{MayAssign};
 
+use crate::placed::Placed;
 use crate::searching::{
     assign_fitting, assign_in_range, first_blocking, revoke_in_range, some_assign, some_revoke,
 };
 use arbac_policy::{On, Part, Policy};
 use role_order::{MOST_ROLES, RoleSet};
 
-/// Why no rule lets the administrator give the role, where none does.
-fn why_no_rule(on: On, policy: &Policy, by: &RoleSet, set: &RoleSet, role: u16) -> Part
+/// Why no rule lets the administrator give the role, and none exactly where one does. The first rule
+/// that fits is sought from the first in range on, and one that lets him from there: one pass in all.
+fn rule_against(on: On, policy: &Policy, by: &RoleSet, set: &RoleSet, role: u16) -> Option<Part>
     requires role { role < length policy.now.order.names }
-    requires none { ¬ Some_of (LetsAssign on policy.now by.now set.now role) (assign_rules on policy.now) }
-    ensures { AssignFails on policy.now by.now set.now role result }
+    ensures none { IfNone result (Some_of (LetsAssign on policy.now by.now set.now role) (assign_rules on policy.now)) }
+    ensures some { IfSome result (AssignFails on policy.now by.now set.now role) }
 {
-    if let Some(rule) = assign_fitting(on, policy, by, role) {
-        return Part::NoCondition { role, rule };
+    let placed = Placed::new(policy.order(), role);
+    let Some(ranged) = assign_in_range(on, policy, &placed) else {
+        return Some(Part::NoRange { role });
+    };
+    let Some(rule) = assign_fitting(on, policy, by, &placed, ranged) else {
+        return Some(Part::NoAdmin { role, rule: ranged });
+    };
+    if some_assign(on, policy, by, set, &placed, rule) {
+        return None;
     }
-    match assign_in_range(on, policy, role) {
-        Some(rule) => Part::NoAdmin { role, rule },
-        None => Part::NoRange { role },
-    }
+    Some(Part::NoCondition { role, rule })
 }
 
 /// The first pair that keeps the role from whoever holds this set, the holder being of this kind.
@@ -59,8 +65,8 @@ pub fn against_assign(
     if role >= policy.order().count() {
         return Some(Part::NoRole { role });
     }
-    if !some_assign(on, policy, by, set, role) {
-        return Some(why_no_rule(on, policy, by, set, role));
+    if let Some(part) = rule_against(on, policy, by, set, role) {
+        return Some(part);
     }
     match pair_against(on, policy, set, role) {
         Some(pair) => Some(Part::Exclusive { role, pair }),
@@ -76,11 +82,12 @@ pub fn against_revoke(on: On, policy: &Policy, by: &RoleSet, role: u16) -> Optio
     if role >= policy.order().count() {
         return Some(Part::NoRole { role });
     }
-    if some_revoke(on, policy, by, role) {
+    let placed = Placed::new(policy.order(), role);
+    let Some(rule) = revoke_in_range(on, policy, &placed) else {
+        return Some(Part::NoRange { role });
+    };
+    if some_revoke(on, policy, by, &placed, rule) {
         return None;
     }
-    match revoke_in_range(on, policy, role) {
-        Some(rule) => Some(Part::NoAdmin { role, rule }),
-        None => Some(Part::NoRange { role }),
-    }
+    Some(Part::NoAdmin { role, rule })
 }

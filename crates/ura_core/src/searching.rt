@@ -10,6 +10,7 @@ ghost use Rattle.arbac_policy.specs.Holders.{assign_rules, revoke_rules};
 ghost use Rattle.arbac_policy.specs.Steps.{Blocks, LetsAssign, LetsRevoke};
 ghost use Rattle.arbac_policy.specs.Verdicts.{FitsRule};
 ghost use Rattle.ura_core.specs.Placed.{IsPlaced};
+ghost use Rattle.ura_core.specs.Searched.{HasNoneBefore};
 
 use crate::criterion::{Criterion, first_met, some_met};
 use crate::placed::Placed;
@@ -135,53 +136,100 @@ impl<'a> Criterion<CanAssign> for Letting<'a> {
     }
 }
 
-/// Whether some rule lets the administrator give the role to the target.
-pub fn some_assign(on: On, policy: &Policy, by: &RoleSet, set: &RoleSet, role: u16) -> bool
-    requires { role < length policy.now.order.names }
-    ensures { IsTrue result ↔ Some_of (LetsAssign on policy.now by.now set.now role) (assign_rules on policy.now) }
+/// Whether some rule lets the administrator give the role to the target, where none before the place
+/// `from` has the role in its range and an administrative role that the administrator has.
+pub fn some_assign(
+    on: On,
+    policy: &Policy,
+    by: &RoleSet,
+    set: &RoleSet,
+    placed: &Placed,
+    from: u32,
+) -> bool
+    requires placed { IsPlaced policy.now.order placed.now.role placed.now.above placed.now.below }
+    requires before { HasNoneBefore (λ rule. FitsRule policy.now by.now placed.now.role rule.range rule.admin) (assign_rules on policy.now) from }
+    ensures { IsTrue result ↔ Some_of (LetsAssign on policy.now by.now set.now placed.now.role) (assign_rules on policy.now) }
 {
-    let placed = Placed::new(policy.order(), role);
-    let fitting = Fitting { policy, by, placed };
-    some_met(&Letting { on, fitting, set }, assign_of(on, policy))
+    let fitting = Fitting {
+        policy,
+        by,
+        placed: *placed,
+    };
+    some_met(&Letting { on, fitting, set }, assign_of(on, policy), from)
 }
 
 /// Whether some rule lets the administrator take the role away.
-pub fn some_revoke(on: On, policy: &Policy, by: &RoleSet, role: u16) -> bool
-    requires { role < length policy.now.order.names }
-    ensures { IsTrue result ↔ Some_of (LetsRevoke policy.now by.now role) (revoke_rules on policy.now) }
+pub fn some_revoke(on: On, policy: &Policy, by: &RoleSet, placed: &Placed, from: u32) -> bool
+    requires placed { IsPlaced policy.now.order placed.now.role placed.now.above placed.now.below }
+    requires before { HasNoneBefore (λ rule. IsInRange policy.now.order rule.range placed.now.role) (revoke_rules on policy.now) from }
+    ensures { IsTrue result ↔ Some_of (LetsRevoke policy.now by.now placed.now.role) (revoke_rules on policy.now) }
 {
-    let placed = Placed::new(policy.order(), role);
-    some_met(&Fitting { policy, by, placed }, revoke_of(on, policy))
+    some_met(
+        &Fitting {
+            policy,
+            by,
+            placed: *placed,
+        },
+        revoke_of(on, policy),
+        from,
+    )
 }
 
 /// The first rule for giving roles whose range has the role.
-pub fn assign_in_range(on: On, policy: &Policy, role: u16) -> Option<u32>
-    requires { role < length policy.now.order.names }
-    ensures found { IfSome result (IsFirst (λ rule. IsInRange policy.now.order rule.range role) (assign_rules on policy.now)) }
-    ensures none { IfNone result (¬ Some_of (λ rule. IsInRange policy.now.order rule.range role) (assign_rules on policy.now)) }
+pub fn assign_in_range(on: On, policy: &Policy, placed: &Placed) -> Option<u32>
+    requires placed { IsPlaced policy.now.order placed.now.role placed.now.above placed.now.below }
+    ensures found { IfSome result (IsFirst (λ rule. IsInRange policy.now.order rule.range placed.now.role) (assign_rules on policy.now)) }
+    ensures none { IfNone result (¬ Some_of (λ rule. IsInRange policy.now.order rule.range placed.now.role) (assign_rules on policy.now)) }
 {
-    let placed = Placed::new(policy.order(), role);
-    first_met(&InRange { policy, placed }, assign_of(on, policy))
+    first_met(
+        &InRange {
+            policy,
+            placed: *placed,
+        },
+        assign_of(on, policy),
+        0,
+    )
 }
 
-/// The first rule for giving roles whose range has the role and whose administrative role the administrator has.
-pub fn assign_fitting(on: On, policy: &Policy, by: &RoleSet, role: u16) -> Option<u32>
-    requires { role < length policy.now.order.names }
-    ensures found { IfSome result (IsFirst (λ rule. FitsRule policy.now by.now role rule.range rule.admin) (assign_rules on policy.now)) }
-    ensures none { IfNone result (¬ Some_of (λ rule. FitsRule policy.now by.now role rule.range rule.admin) (assign_rules on policy.now)) }
+/// The first rule for giving roles whose range has the role and whose administrative role the
+/// administrator has, where no rule before the place `from` has the role in its range.
+pub fn assign_fitting(
+    on: On,
+    policy: &Policy,
+    by: &RoleSet,
+    placed: &Placed,
+    from: u32,
+) -> Option<u32>
+    requires placed { IsPlaced policy.now.order placed.now.role placed.now.above placed.now.below }
+    requires before { HasNoneBefore (λ rule. IsInRange policy.now.order rule.range placed.now.role) (assign_rules on policy.now) from }
+    ensures found { IfSome result (IsFirst (λ rule. FitsRule policy.now by.now placed.now.role rule.range rule.admin) (assign_rules on policy.now)) }
+    ensures none { IfNone result (¬ Some_of (λ rule. FitsRule policy.now by.now placed.now.role rule.range rule.admin) (assign_rules on policy.now)) }
 {
-    let placed = Placed::new(policy.order(), role);
-    first_met(&Fitting { policy, by, placed }, assign_of(on, policy))
+    first_met(
+        &Fitting {
+            policy,
+            by,
+            placed: *placed,
+        },
+        assign_of(on, policy),
+        from,
+    )
 }
 
 /// The first rule for taking roles away whose range has the role.
-pub fn revoke_in_range(on: On, policy: &Policy, role: u16) -> Option<u32>
-    requires { role < length policy.now.order.names }
-    ensures found { IfSome result (IsFirst (λ rule. IsInRange policy.now.order rule.range role) (revoke_rules on policy.now)) }
-    ensures none { IfNone result (¬ Some_of (λ rule. IsInRange policy.now.order rule.range role) (revoke_rules on policy.now)) }
+pub fn revoke_in_range(on: On, policy: &Policy, placed: &Placed) -> Option<u32>
+    requires placed { IsPlaced policy.now.order placed.now.role placed.now.above placed.now.below }
+    ensures found { IfSome result (IsFirst (λ rule. IsInRange policy.now.order rule.range placed.now.role) (revoke_rules on policy.now)) }
+    ensures none { IfNone result (¬ Some_of (λ rule. IsInRange policy.now.order rule.range placed.now.role) (revoke_rules on policy.now)) }
 {
-    let placed = Placed::new(policy.order(), role);
-    first_met(&InRange { policy, placed }, revoke_of(on, policy))
+    first_met(
+        &InRange {
+            policy,
+            placed: *placed,
+        },
+        revoke_of(on, policy),
+        0,
+    )
 }
 
 /// Whether a user with the set is a member of the other role once he has the role.
@@ -223,5 +271,5 @@ pub fn first_blocking(policy: &Policy, set: &RoleSet, role: u16) -> Option<u32>
 {
     policy.law();
     let order = policy.order();
-    first_met(&Blocking { order, set, role }, policy.exclusive())
+    first_met(&Blocking { order, set, role }, policy.exclusive(), 0)
 }

@@ -1,11 +1,11 @@
 use Rattle.std.proofs.Common.{◌∙◌, ap, sym, Some}
 use Rattle.std.proofs.lemmas.Bool.{false≢true}
 use Rattle.list_words.proofs.GetLemmas.{get_at}
-use Rattle.ura_core.proofs.CriterionLemmas.{none_yet, none_more, none_at_all}
+use Rattle.ura_core.proofs.CriterionLemmas.{none_more, none_at_all}
 use Rattle.ura_core.proofs.criterion.first_met.Goals as goal
 
 pub loop-place-init : goal.loop-place-init
-loop-place-init g c = none_yet (g.C.Criterion.met c.args.criterion.now) c.args.items.now
+loop-place-init g c = c.requires.before
 
 -- no item before this one meets the criterion
 pub returns-then-is_met-clause-found : goal.returns-then-is_met-clause-found

@@ -1,5 +1,5 @@
-use Rattle.ura_core.proofs.CriterionLemmas.{NoneBefore}
+use Rattle.ura_core.specs.Searched.{HasNoneBefore}
 use Rattle.ura_core.proofs.criterion.first_met.Given as goal
 
 abbrev pub invariant-loop-place : goal.invariant-loop-place
-invariant-loop-place g l = NoneBefore (g.C.Criterion.met l.criterion) l.items l.place
+invariant-loop-place g l = HasNoneBefore (g.C.Criterion.met l.criterion) l.items l.place

@@ -1,7 +1,4 @@
 use Rattle.ura_core.proofs.searching.assign_fitting.Goals as goal
 
 pub returns-clause-found : goal.returns-clause-found
-returns-clause-found c = rw (← c.assign_of.ensures.rules) (rw c.new-placed.ensures.role at c.first_met.ensures.found)
-
-pub returns-clause-none : goal.returns-clause-none
-returns-clause-none c = rw (← c.assign_of.ensures.rules) (rw c.new-placed.ensures.role at c.first_met.ensures.none)
+returns-clause-found c = rw (← c.assign_of.ensures.rules) c.first_met.ensures.found
