@@ -135,3 +135,9 @@ form_none raw i one e made =
     stops : {A : Type 0} (t : Bool) (x : A) → None ≡ cond t None (Some x) → t ≡ true
     stops true x e = refl
     stops false x e = cc
+
+-- user requirements with the same hits and the same lacks are the same
+pub same_user : (a b : Need) → a.hits ≡ b.hits → a.lacks ≡ b.lacks → a ≡ b
+same_user a b hits lacks =
+    ap (λ (h : List (List ℕ)). let need : Need = record { hits = h; lacks = a.lacks } in need) hits
+    ∙ ap (λ (l : List ℕ). let need : Need = record { hits = b.hits; lacks = l } in need) lacks

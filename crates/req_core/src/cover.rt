@@ -28,7 +28,7 @@ fn covers_hits(hits: &[RoleSet], others: &[RoleSet], lacks: &RoleSet) -> bool
 }
 
 /// Whether the first user requirement covers the second.
-fn covers_user(a: &UserReq, b: &UserReq) -> bool
+pub fn covers_user(a: &UserReq, b: &UserReq) -> bool
     ensures { IsTrue result ↔ CoversNeed a.now b.now }
 {
     a.lacks().within(b.lacks()) && covers_hits(a.hits(), b.hits(), b.lacks())

@@ -7,11 +7,13 @@ ghost use Rattle.role_order.specs.Orders.{set_before};
 ghost use Rattle.arbac_laws.specs.PreImages.{is_empty};
 ghost use Rattle.arbac_laws.specs.NormalForms as forms;
 ghost use Rattle.arbac_laws.specs.NormalForms.{least_hits, insert_once, sort_once, normal_need, AreSets, IsNormalNeed};
+ghost use Rattle.arbac_laws.specs.PreImages.{add_hit};
 ghost use Rattle.arbac_laws.specs.Views.{need_of};
+ghost use Rattle.req_core.specs.Forms.{user_form};
 
-use crate::RawUser;
 use crate::req::UserReq;
 use crate::sorted::{Ranked, place_of};
+use crate::{NoMemory, RawUser};
 use role_order::RoleSet;
 use std::alloc::{AllocError, Global};
 
@@ -99,9 +101,8 @@ fn made(hits: Vec<RoleSet>, lacks: RoleSet) -> UserReq
 }
 
 /// The user requirement in normal form; none where a hit has no role left.
-pub(crate) fn normal_user(alloc: Global, raw: &RawUser) -> Result<Option<UserReq>, AllocError>
-    ensures need { IfOk result (λ user. user
-        ≡ (if list_any is_empty (forms.bare_hits (need_of raw.now)) then None else Some (normal_need (need_of raw.now)))) }
+pub fn normal_user(alloc: Global, raw: &RawUser) -> Result<Option<UserReq>, NoMemory>
+    ensures need { IfOk result (λ user. user ≡ user_form (need_of raw.now)) }
     ensures normal { IfOk result (λ user. IfSome user IsNormalNeed) }
 {
     match bare_hits(alloc, raw)? {
@@ -111,4 +112,16 @@ pub(crate) fn normal_user(alloc: Global, raw: &RawUser) -> Result<Option<UserReq
             Ok(Some(made(hits, raw.lacks)))
         }
     }
+}
+
+/// The user requirement with one more hit, in normal form; none where the hit has no role but the lacks.
+pub fn with_hit(alloc: Global, user: &UserReq, hit: &RoleSet) -> Result<Option<UserReq>, NoMemory>
+    ensures { IfOk result (λ made. made ≡ user_form (add_hit hit.now user.now)) }
+{
+    let mut hits = Vec::with_capacity(alloc, user.hits().len().saturating_add(1))?;
+    hits.push(*hit)?;
+    hits.extend_from_slice(user.hits())?;
+    let lacks = *user.lacks();
+    let made = normal_user(alloc, &RawUser { hits, lacks })?;
+    Ok(made)
 }

@@ -1,14 +1,16 @@
 //! Requirements in normal form.
 
-ghost use Rattle.std.specs.Prelude.{◌≡◌, ◌↔◌, IsTrue};
+ghost use Rattle.std.specs.Prelude.{◌≡◌, ◌↔◌, IsTrue, IfOk};
 ghost use Rattle.std.specs.List.{list_all};
 ghost use Rattle.role_order.specs.Roles.{have_common};
 ghost use Rattle.arbac_laws.specs.Needs.{MeetsNeed};
 ghost use Rattle.arbac_laws.specs.Orders.{hits_before, need_before};
 ghost use Rattle.arbac_laws.specs.NormalForms.{IsNormalNeed, IsNormal};
 
+use crate::NoMemory;
 use crate::sorted::Ranked;
 use role_order::RoleSet;
+use std::alloc::Global;
 use std::marker::Model;
 
 /// What is wanted of one user, in normal form: hits that have roles and no lacks, none within another,
@@ -44,6 +46,32 @@ impl UserReq {
         ensures { result.now ≡ self.now.lacks }
     {
         &self.lacks
+    }
+}
+
+impl UserReq {
+    /// A copy.
+    pub fn copy(&self, alloc: Global) -> Result<UserReq, NoMemory>
+        ensures { IfOk result (λ other. other ≡ self.now) }
+    {
+        let mut hits = Vec::with_capacity(alloc, self.hits.len())?;
+        hits.extend_from_slice(&self.hits)?;
+        let lacks = self.lacks;
+        Ok(UserReq { hits, lacks })
+    }
+
+    /// Whether the same is wanted.
+    pub fn is_same(&self, other: &UserReq) -> bool
+        ensures { IsTrue result ↔ (self.now ≡ other.now) }
+    {
+        self.lacks == other.lacks && self.hits == other.hits
+    }
+
+    /// Whether it comes before the other: by the hits, and then by the lacks.
+    pub fn precedes(&self, other: &UserReq) -> bool
+        ensures { result ≡ need_before self.now other.now }
+    {
+        self.is_before(other)
     }
 }
 
@@ -106,6 +134,14 @@ impl Model for Req {
 }
 
 impl Req {
+    /// The requirement of user requirements that are sorted.
+    pub fn of(users: Vec<UserReq>) -> Req
+        requires { IsNormal users.items }
+        ensures { result ≡ users.items }
+    {
+        Req { users }
+    }
+
     /// The user requirements, in order.
     pub fn users(&self) -> &[UserReq]
         ensures users { result.now ≡ self.now }

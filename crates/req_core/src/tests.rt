@@ -1,6 +1,8 @@
 //! Requirements over four roles: their normal forms, cover, and which profiles serve them.
 
-use crate::{Met, RawUser, Req, covers, meets, met, normal};
+use crate::{
+    Met, RawUser, Req, UserReq, covers, covers_user, meets, met, normal, normal_user, with_hit,
+};
 use arbac_policy::Profile;
 use role_order::RoleSet;
 use std::alloc::{AllocError, Global};
@@ -145,6 +147,38 @@ const MET: [MetRow; 9] = [
     ),
 ];
 
+/// A user requirement, a hit that is wanted too, and what is wanted then.
+const MORE: [(User, &[u16], &str); 7] = [
+    ((&[], &[]), &[1, 0], "user hit 0 1\n"),
+    // It may lie within an earlier hit, contain one, or be one.
+    ((&[&[0, 1], &[3]], &[]), &[1], "user hit 1 hit 3\n"),
+    ((&[&[1]], &[]), &[1, 2], "user hit 1\n"),
+    ((&[&[1]], &[]), &[1], "user hit 1\n"),
+    // Lacks are taken out of it.
+    ((&[&[1]], &[2]), &[0, 2], "user hit 0 hit 1 lack 2\n"),
+    ((&[&[1]], &[2]), &[2], "impossible"),
+    ((&[], &[]), &[], "impossible"),
+];
+
+/// Two user requirements; whether the first covers the second, comes before it, and is the same.
+const COMPARED: [(User, User, &str); 9] = [
+    ((&[], &[]), (&[], &[]), " covers same"),
+    ((&[], &[]), (&[&[0]], &[]), " covers before"),
+    ((&[&[0]], &[]), (&[], &[]), ""),
+    ((&[&[0, 1]], &[]), (&[&[0]], &[]), " covers"),
+    ((&[&[0]], &[]), (&[&[0, 1]], &[]), " before"),
+    ((&[&[0]], &[2]), (&[&[0]], &[3]), " before"),
+    ((&[&[0]], &[2]), (&[&[0]], &[2, 3]), " covers before"),
+    // The other's lacks are taken out.
+    ((&[&[0, 3]], &[]), (&[&[0], &[1]], &[3]), " covers"),
+    // Order and repetition are left out of the normal form.
+    (
+        (&[&[1], &[0]], &[]),
+        (&[&[0], &[1], &[0]], &[]),
+        " covers same",
+    ),
+];
+
 fn set_of(rt: &impl Abort, roles: &[u16]) -> RoleSet {
     let mut set = RoleSet::empty();
     for role in roles {
@@ -257,6 +291,57 @@ fn profiles_serve_a_requirement_or_users_are_apart(rt: HostRuntime) -> Result<()
             Met::Choice(choice) => assert!(&rt; *served && choice.as_slice() == *list, "at {at}"),
             Met::Apart(apart) => assert!(&rt; !*served && apart.as_slice() == *list, "at {at}"),
         }
+    }
+    Ok(())
+}
+
+fn user_of(rt: &impl Abort, alloc: Global, user: &User) -> Result<UserReq, Fail> {
+    let user = normal_user(alloc, &raw_user(rt, alloc, user)?)?;
+    Ok(user.ok_or("impossible")?)
+}
+
+/// The requirement of one user.
+fn alone(alloc: Global, user: UserReq) -> Result<Req, AllocError> {
+    // It is in normal form.
+    user.hits();
+    Ok(Req::of(vec![in alloc; user]?))
+}
+
+fn user_text(alloc: Global, user: Option<UserReq>) -> Result<String, AllocError> {
+    match user {
+        Some(user) => text_of(alloc, &alone(alloc, user)?),
+        None => String::from_str(alloc, "impossible"),
+    }
+}
+
+fn compared(alloc: Global, a: &UserReq, b: &UserReq) -> Result<String, AllocError> {
+    let mut text = String::new(alloc);
+    for (is, word) in [
+        (covers_user(a, b), " covers"),
+        (a.precedes(b), " before"),
+        (a.is_same(b), " same"),
+    ] {
+        if is {
+            text.push_str(word)?;
+        }
+    }
+    Ok(text)
+}
+
+#[test]
+fn a_user_requirement_gains_a_hit_and_is_compared(rt: HostRuntime) -> Result<(), Fail> {
+    let alloc = rt.alloc();
+    for (at, (user, roles, text)) in MORE.iter().enumerate() {
+        let user = user_of(&rt, alloc, user)?;
+        let more = with_hit(alloc, &user, &set_of(&rt, roles))?;
+        assert_eq!(&rt; user_text(alloc, more)?.as_str(), *text, "at {at}");
+    }
+    for (at, (a, b, words)) in COMPARED.iter().enumerate() {
+        let a = user_of(&rt, alloc, a)?;
+        let b = user_of(&rt, alloc, b)?;
+        assert_eq!(&rt; compared(alloc, &a, &b)?.as_str(), *words, "at {at}");
+        let copy = a.copy(alloc)?;
+        assert!(&rt; copy.is_same(&a), "at {at}");
     }
     Ok(())
 }
