@@ -1,29 +1,10 @@
--- Pre-images, part by part.
-use Rattle.std.proofs.Common.{ℕ, ◌≡◌, ◌≤◌, ◌∙◌, true, false, List, [], ◌∷◌, length, map, Some, zero, suc, refl, ap, sym, arith}
-use Rattle.std.specs.Prelude.{◌||◌, None, slice_get, slice_set}
-use Rattle.std.specs.List.{list_any}
-use Rattle.role_order.specs.Roles.{without_role}
+-- A change at a place of the list of raw users.
+use Rattle.std.proofs.Common.{ℕ, ◌≡◌, ◌≤◌, List, [], ◌∷◌, length, Some, zero, suc, refl, ap, arith}
+use Rattle.std.specs.Prelude.{slice_get, slice_set}
 use Rattle.arbac_laws.specs.Needs.{Need}
-use Rattle.arbac_laws.specs.PreImages.{add_hit, before_weak, change_at, has_alone, is_empty}
+use Rattle.arbac_laws.specs.PreImages.{add_hit, change_at}
 use Rattle.arbac_policy.specs.declared.conjunct.Conjunct.{Conjunct}
 use Rattle.arbac_laws.specs.Views.{need_of, needs_of}
-
-pub any_alone : (role : ℕ) (hits : List (List ℕ)) → list_any (λ hit. is_empty (without_role hit role)) hits ≡ has_alone role hits
-any_alone role [] = refl
-any_alone role (hit ∷ hits) = ap (λ b. is_empty (without_role hit role) || b) (any_alone role hits)
-
-pub weak_none : (role : ℕ) (need : Need) → list_any (λ hit. is_empty (without_role hit role)) need.hits ≡ true → None ≡ before_weak role need
-weak_none role need h = let alone : has_alone role need.hits ≡ true = sym (any_alone role need.hits) ∙ h in rw alone refl
-
-pub weak_some : (role : ℕ) (need : Need) (hits : List (List ℕ)) (lacks : List ℕ)
-    → list_any (λ hit. is_empty (without_role hit role)) need.hits ≡ false
-    → hits ≡ map (λ hit. without_role hit role) need.hits → lacks ≡ without_role need.lacks role
-    → Some (record { hits = hits; lacks = lacks }) ≡ before_weak role need
-weak_some role need hits lacks h is less =
-    let alone : has_alone role need.hits ≡ false = sym (any_alone role need.hits) ∙ h in
-    rw (alone, is, less) refl
-
--- a change at a place of the list of raw users
 
 pub change_raw : (raw : List Conjunct) (i : ℕ) (user : Conjunct) (hit : List ℕ) (old : Conjunct) → slice_get raw i ≡ Some old
     → need_of user ≡ add_hit hit (need_of old)

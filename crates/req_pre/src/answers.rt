@@ -1,6 +1,6 @@
 //! What the calls answer.
 
-use std::alloc::AllocFailed;
+use std::alloc::{AllocError, AllocFailed};
 
 /// Why a policy can't be prepared.
 #[derive(Clone, Copy, Debug, PartialEq, Eq)]
@@ -10,6 +10,17 @@ pub enum PrepareError {
     TooWide { rule: u32, count: u128 },
     /// Memory ran out.
     Memory,
+}
+
+impl From<AllocError> for PrepareError {
+    ghost use Rattle.std.specs.Prelude.{◌≡◌};
+    ghost use Rattle.req_pre.specs.declared.answers.PrepareError.TheVariants as refusals;
+
+    ghost from_gives = { λ _ e. e ≡ refusals.Memory };
+
+    fn from(_e: AllocError) -> PrepareError {
+        PrepareError::Memory
+    }
 }
 
 impl<T: Drop> From<AllocFailed<T>> for PrepareError {

@@ -1,14 +1,10 @@
 //! Pre-images.
 
-ghost use Rattle.std.specs.Prelude.{ℕ, ◌≡◌, ◌<◌, ◌++◌, [], ◌∷◌, not, if◌then◌else◌, length, map, filter, slice_get, slice_set};
+ghost use Rattle.std.specs.Prelude.{◌≡◌, ◌<◌, ◌++◌, [], ◌∷◌, length, slice_get, slice_set};
 ghost use Rattle.std.specs.Prelude.{◌↔◌, option_map, IfOk, IfSome, IsNone, IsTrue, OnOk};
-ghost use Rattle.std.specs.List.{list_any};
-ghost use Rattle.list_words.specs.Lists.{Each};
 ghost use Rattle.role_order.specs.Reach.{seniors_of};
-ghost use Rattle.role_order.specs.Roles.{has_role, join_roles, without_role};
 ghost use Rattle.arbac_policy.specs.declared.rule.CanAssign.{CanAssign};
 ghost use Rattle.arbac_policy.specs.declared.rule.CanRevoke.{CanRevoke};
-ghost use Rattle.arbac_policy.specs.Rules.{IsKnownPair};
 ghost use Rattle.arbac_laws.specs.Obligations.{and_then, assigns, revokes};
 ghost use Rattle.arbac_laws.specs.NormalForms.{normal_form, pre_form, AreFormPlaces};
 ghost use Rattle.arbac_laws.specs.PreImages as laws;
@@ -23,138 +19,12 @@ use crate::NoMemory;
 use crate::owed::{Obligation, Pick};
 use crate::prepared::Prepared;
 use crate::raw::raw_user;
+use crate::targets::{before_assign, before_weak};
 use arbac_policy::Policy;
 use arbac_rules::Conjunct;
-use req_core::{Normal, RawUser, Req, UserReq, normal};
-use role_order::{Order, RoleSet};
+use req_core::{Normal, RawUser, Req, normal};
+use role_order::RoleSet;
 use std::alloc::{AllocError, Global};
-
-/// Whether the role is above both roles of a pair.
-fn is_barred(order: &Order, role: u16, pairs: &[(u16, u16)]) -> bool
-    requires { Each (IsKnownPair (length order.now.names)) pairs.now }
-    ensures { result ≡ laws.is_barred order.now role pairs.now }
-{
-    for &pair in pairs {
-        if order.seniors(pair.0).has(role) && order.seniors(pair.1).has(role) {
-            return true;
-        }
-    }
-    false
-}
-
-/// What is above the second, where the role is above the first.
-fn barred_by(order: &Order, role: u16, first: u16, second: u16) -> RoleSet
-    requires first { first < length order.now.names }
-    requires second { second < length order.now.names }
-    ensures { result ≡ (if has_role (seniors_of order.now first) role then seniors_of order.now second else []) }
-{
-    if order.seniors(first).has(role) {
-        order.seniors(second)
-    } else {
-        RoleSet::empty()
-    }
-}
-
-/// What the pairs bar from whoever is given the role.
-fn barred(order: &Order, role: u16, pairs: &[(u16, u16)]) -> RoleSet
-    requires { Each (IsKnownPair (length order.now.names)) pairs.now }
-    ensures { result ≡ laws.barred order.now role pairs.now }
-{
-    let mut all = RoleSet::empty();
-    for at in (0..pairs.len()).rev() {
-        let pair = pairs[at];
-        let second = barred_by(order, role, pair.1, pair.0).join(&all);
-        all = barred_by(order, role, pair.0, pair.1).join(&second);
-    }
-    all
-}
-
-/// The hits that don't have the role.
-fn other_hits(alloc: Global, role: u16, hits: &[RoleSet]) -> Result<Vec<RoleSet>, AllocError>
-    ensures { IfOk result (λ list. list.items ≡ filter (λ hit. not (has_role hit role)) hits.now) }
-{
-    let mut list = Vec::with_capacity(alloc, hits.len())?;
-    for hit in hits {
-        if !hit.has(role) {
-            list.push(*hit)?;
-        }
-    }
-    Ok(list)
-}
-
-/// What the target must meet before it is given the role, which no pair bars from it.
-fn before_given(
-    alloc: Global,
-    policy: &Policy,
-    conjunct: &Conjunct,
-    role: u16,
-    user: &UserReq,
-) -> Result<RawUser, AllocError>
-    ensures hits { IfOk result (λ raw. (need_of raw).hits
-        ≡ filter (λ hit. not (has_role hit role)) user.now.hits ++ (need_of conjunct.now).hits) }
-    ensures lacks { IfOk result (λ raw. (need_of raw).lacks ≡ join_roles user.now.lacks
-        (join_roles (need_of conjunct.now).lacks (laws.barred policy.now.order role policy.now.exclusive))) }
-{
-    let mut hits = other_hits(alloc, role, user.hits())?;
-    hits.extend_from_slice(&conjunct.hits)?;
-    let bars = barred(policy.order(), role, policy.exclusive());
-    let lacks = user.lacks().join(&conjunct.lacks.join(&bars));
-    Ok(RawUser { hits, lacks })
-}
-
-/// What the target must meet before it is given the role.
-fn before_assign(
-    alloc: Global,
-    policy: &Policy,
-    conjunct: &Conjunct,
-    role: u16,
-    user: &UserReq,
-) -> Result<Option<RawUser>, AllocError>
-    ensures { IfOk result (λ raw. option_map need_of raw ≡ laws.before_assign policy.now (need_of conjunct.now) role user.now) }
-{
-    if user.lacks().has(role) || is_barred(policy.order(), role, policy.exclusive()) {
-        return Ok(None);
-    }
-    let raw = before_given(alloc, policy, conjunct, role, user)?;
-    Ok(Some(raw))
-}
-
-/// Whether the set has no other role.
-fn is_alone(hit: &RoleSet, role: u16) -> bool
-    ensures { result ≡ laws.is_empty (without_role hit.now role) }
-{
-    hit.without(role).within(&RoleSet::empty())
-}
-
-/// Whether some hit has no other role.
-fn has_alone(hits: &[RoleSet], role: u16) -> bool
-    ensures { result ≡ list_any (λ hit. laws.is_empty (without_role hit role)) hits.now }
-{
-    hits.iter().any(|hit| is_alone(hit, role))
-}
-
-/// The hits without the role.
-fn hits_without(alloc: Global, role: u16, hits: &[RoleSet]) -> Result<Vec<RoleSet>, AllocError>
-    ensures { IfOk result (λ list. list.items ≡ map (λ hit. without_role hit role) hits.now) }
-{
-    let mut list = Vec::with_capacity(alloc, hits.len())?;
-    for hit in hits {
-        list.push(hit.without(role))?;
-    }
-    Ok(list)
-}
-
-/// What the target must meet before it loses the role.
-fn before_weak(alloc: Global, role: u16, user: &UserReq) -> Result<Option<RawUser>, AllocError>
-    ensures { IfOk result (λ raw. option_map need_of raw ≡ laws.before_weak role user.now) }
-{
-    if has_alone(user.hits(), role) {
-        return Ok(None);
-    }
-    let hits = hits_without(alloc, role, user.hits())?;
-    let lacks = user.lacks().without(role);
-    Ok(Some(RawUser { hits, lacks }))
-}
 
 /// The user requirements in values of their own.
 fn raw_users(alloc: Global, req: &Req) -> Result<Vec<RawUser>, AllocError>
@@ -293,8 +163,7 @@ fn pre_assign(
     ensures form { IfOk result (λ normal. form_in normal ≡ pre_form prepared.now req.now (assigns rule conjunct role target (pick_of admin))) }
     ensures places { IfOk result (λ normal. IfSome normal (ArePrePlaces prepared.now req.now (assigns rule conjunct role target (pick_of admin)))) }
 {
-    let policy = prepared.policy();
-    let Some(hit) = givers(policy, rule) else {
+    let Some(hit) = givers(prepared.policy(), rule) else {
         return Ok(None);
     };
     let Some(one) = conjunct_at(prepared, rule, conjunct) else {
@@ -303,7 +172,7 @@ fn pre_assign(
     let Some(user) = req.users().get(target as usize) else {
         return Ok(None);
     };
-    let Some(before) = before_assign(alloc, policy, one, role, user)? else {
+    let Some(before) = before_assign(alloc, prepared, one, role, user)? else {
         return Ok(None);
     };
     let form = exchanged(alloc, req, before, target, admin, hit)?;

@@ -3,11 +3,13 @@
 
 mod answers;
 mod backwards;
+mod exclusions;
 mod goal_list;
 mod owed;
 mod owing;
 mod prepared;
 mod raw;
+mod targets;
 #[cfg(test)]
 mod tests;
 
@@ -19,3 +21,4 @@ pub use owed::{Obligation, Pick};
 pub use owing::obligations;
 pub use prepared::Prepared;
 pub use std::alloc::AllocError as NoMemory;
+pub use targets::{before_given, before_taken};

@@ -4,21 +4,29 @@ ghost use Rattle.std.specs.Prelude.{◌≡◌, ◌≤◌, ◌<◌, ℕ, length, 
 ghost use Rattle.list_words.specs.Lists.{Each};
 ghost use Rattle.arbac_policy.specs.Rules.{IsPolicy};
 ghost use Rattle.arbac_policy.specs.declared.rule.CanAssign.{CanAssign};
+ghost use Rattle.arbac_laws.specs.PreImages as laws;
 ghost use Rattle.arbac_laws.specs.Views.{needs_of};
 ghost use Rattle.req_pre.specs.Preparing.{conjuncts_of, AreShort, IsWide, IsTooWide};
 ghost use Rattle.req_pre.specs.Views.{lists_of};
 
 use crate::answers::PrepareError;
+use crate::exclusions::{all_bars, closed_roles};
 use arbac_policy::Policy;
 use arbac_rules::{Conjunct, WideError, conjuncts};
+use role_order::RoleSet;
 use std::alloc::Global;
 use std::marker::Model;
 
-/// A policy, which contracts see, and the conjuncts of each of its rules of `can_assign`.
+/// A policy, which contracts see, and what is made of it once: the conjuncts of each of its rules of `can_assign`, and what
+/// its exclusive pairs bar.
 #[derive(Drop)]
 pub struct Prepared {
     policy: Policy,
     conjuncts: Vec<Vec<Conjunct>>,
+    /// By role, what is barred from whoever is given it.
+    bars: Vec<RoleSet>,
+    /// The roles that nobody can be given who lacks them.
+    closed: RoleSet,
 }
 
 impl Model for Prepared {
@@ -26,7 +34,7 @@ impl Model for Prepared {
     ghost use Rattle.arbac_policy.specs.Rules.{Rules};
     ghost use Rattle.arbac_policy.specs.contracts.cond.Cond as e;
     ghost use Rattle.std.specs.Coded.{codes};
-    ghost use Rattle.req_pre.specs.Preparing.{conjuncts_of};
+    ghost use Rattle.req_pre.specs.Preparing.{conjuncts_of, AreExclusions};
     ghost use Rattle.req_pre.specs.Views.{lists_of};
 
     ghost Value = { Rules };
@@ -35,7 +43,8 @@ impl Model for Prepared {
 
     ghost view = { λ p. p.policy };
 
-    ghost invariant = { λ p. lists_of p.conjuncts.items ≡ map (conjuncts_of p.policy) p.policy.assign };
+    ghost invariant = { λ p. (lists_of p.conjuncts.items ≡ map (conjuncts_of p.policy) p.policy.assign)
+        × AreExclusions p.policy.order p.policy.exclusive p.bars.items p.closed };
 }
 
 /// The conjuncts of each rule of `can_assign`.
@@ -71,7 +80,14 @@ impl Prepared {
         ensures wide { IfErr result (IsTooWide policy) }
     {
         let conjuncts = lists_for(alloc, &policy)?;
-        Ok(Prepared { policy, conjuncts })
+        let bars = all_bars(alloc, &policy)?;
+        let closed = closed_roles(&policy);
+        Ok(Prepared {
+            policy,
+            conjuncts,
+            bars,
+            closed,
+        })
     }
 
     /// The policy.
@@ -82,7 +98,7 @@ impl Prepared {
     }
 
     /// The conjuncts of the condition of the rule at the place of `can_assign`, if one stands there.
-    pub(crate) fn conjuncts_at(&self, rule: usize) -> Option<&[Conjunct]>
+    pub fn conjuncts_at(&self, rule: usize) -> Option<&[Conjunct]>
         ensures list { IfSome result (λ list. (rule_is : CanAssign) × (slice_get self.now.assign rule ≡ Some rule_is)
             × (needs_of list.now ≡ conjuncts_of self.now rule_is)) }
         ensures there { IfNone result (length self.now.assign ≤ rule) }
@@ -91,5 +107,22 @@ impl Prepared {
             Some(list) => Some(list.as_slice()),
             None => None,
         }
+    }
+
+    /// What the exclusive pairs bar from whoever is given the role; nothing where that is no role.
+    pub fn bars(&self, role: u16) -> RoleSet
+        ensures { result ≡ laws.barred self.now.order role self.now.exclusive }
+    {
+        match self.bars.get(role as usize) {
+            Some(set) => *set,
+            None => RoleSet::empty(),
+        }
+    }
+
+    /// Whether the role is above both roles of a pair, so that nobody who lacks it can be given it.
+    pub fn is_closed(&self, role: u16) -> bool
+        ensures { result ≡ laws.is_barred self.now.order role self.now.exclusive }
+    {
+        self.closed.has(role)
     }
 }

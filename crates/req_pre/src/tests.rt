@@ -4,10 +4,13 @@ ghost use Rattle.std.specs.Prelude.{◌≤◌, length, IfOk};
 ghost use Rattle.arbac_policy.specs.Truth.{term_of, IsKnown};
 ghost use Rattle.cond_text.specs.Grammar.{term_count};
 
-use crate::{Obligation, Pick, PrepareError, Prepared, WideError, goals, obligations, pre};
+use crate::{
+    Obligation, Pick, PrepareError, Prepared, WideError, before_given, before_taken, goals,
+    obligations, pre,
+};
 use arbac_policy::{CanAssign, CanRevoke, Cond, Policy};
 use arbac_rules::{MOST_TERMS, parse_cond};
-use req_core::{Normal, Req};
+use req_core::{Normal, Req, UserReq};
 use role_order::{Order, Range, RoleSet};
 use std::alloc::{AllocError, Global};
 use std::process::Abort;
@@ -76,6 +79,43 @@ const PAIRED: [(&str, &str); 2] = [
     ),
 ];
 
+/// A user requirement, by a condition; a role; and what the user must meet before it is given the role by a rule for members
+/// of adm. 3 is no role.
+const GIVEN: [(&str, u16, &str); 7] = [
+    // The hits with the role go, and the rule's come.
+    ("c", 1, "user hit adm / "),
+    ("c", 2, "user hit adm / "),
+    ("d and not adm", 1, "impossible"),
+    ("d", 1, "user hit adm hit d / "),
+    ("c", 0, "user hit adm hit c d / "),
+    // A role that it is to lack can't be given.
+    ("not c", 2, "impossible"),
+    ("c", 3, "user hit adm hit c d / "),
+];
+
+/// The same by a rule for everybody, under the pairs of c with adm and of c with d.
+const GIVEN_IN_PAIRS: [(&str, u16, &str); 7] = [
+    ("any", 1, "user lack adm d / "),
+    ("c", 1, "user lack adm d / "),
+    ("d", 1, "impossible"),
+    // d is above both roles of a pair.
+    ("any", 2, "impossible"),
+    ("any", 0, "user lack c d / "),
+    ("c and not adm", 0, "impossible"),
+    ("c and not adm", 3, "user hit c d lack adm / "),
+];
+
+/// The same before the role is taken from it.
+const TAKEN: [(&str, u16, &str); 7] = [
+    ("not adm", 0, "user / "),
+    ("adm", 0, "impossible"),
+    ("c", 1, "user hit d / "),
+    ("c", 2, "user hit c / "),
+    ("c and d", 2, "impossible"),
+    ("adm and not c", 1, "user hit adm lack d / "),
+    ("adm and not c", 3, "user hit adm lack c d / "),
+];
+
 fn range(low: u16, high: u16) -> Range {
     Range {
         low,
@@ -136,16 +176,20 @@ fn put_set(alloc: Global, text: &mut String, word: &str, set: &RoleSet) -> Resul
     Ok(())
 }
 
+fn put_user(alloc: Global, text: &mut String, user: &UserReq) -> Result<(), AllocError> {
+    text.push_str("user")?;
+    for hit in user.hits() {
+        put_set(alloc, text, " hit", hit)?;
+    }
+    if !user.lacks().within(&RoleSet::empty()) {
+        put_set(alloc, text, " lack", user.lacks())?;
+    }
+    text.push_str(" / ")
+}
+
 fn put_req(alloc: Global, text: &mut String, req: &Req) -> Result<(), AllocError> {
     for user in req.users() {
-        text.push_str("user")?;
-        for hit in user.hits() {
-            put_set(alloc, text, " hit", hit)?;
-        }
-        if !user.lacks().within(&RoleSet::empty()) {
-            put_set(alloc, text, " lack", user.lacks())?;
-        }
-        text.push_str(" / ")?;
+        put_user(alloc, text, user)?;
     }
     Ok(())
 }
@@ -305,6 +349,65 @@ fn obligations_have_their_pre_images(rt: HostRuntime) -> Result<(), Fail> {
     let pairs = vec![in alloc; (1, 0), (1, 2)]?;
     let paired = prepared_of(&rt, alloc, Cond::Any, range(1, 2), pairs)?;
     assert_owed(&rt, alloc, &paired, &PAIRED)
+}
+
+/// The user of the condition's first requirement.
+fn user_of(
+    rt: &impl Abort,
+    alloc: Global,
+    prepared: &Prepared,
+    text: &str,
+) -> Result<UserReq, Fail> {
+    let goal = cond_of(rt, alloc, prepared, text)?;
+    let forms = goals(alloc, prepared, &[goal])?;
+    match forms.as_slice() {
+        [Some(normal), ..] => {
+            let user = normal.req.users().first().ok_or("no user")?;
+            Ok(user.copy(alloc)?)
+        }
+        _ => Err("impossible")?,
+    }
+}
+
+fn before_text(alloc: Global, before: &Option<UserReq>) -> Result<String, AllocError> {
+    let mut text = String::new(alloc);
+    match before {
+        Some(user) => put_user(alloc, &mut text, user)?,
+        None => text.push_str("impossible")?,
+    }
+    Ok(text)
+}
+
+/// Gives the roles by the first conjunct of the policy's rule.
+fn assert_given(
+    rt: &impl Abort,
+    alloc: Global,
+    prepared: &Prepared,
+    rows: &[(&str, u16, &str)],
+) -> Result<(), Fail> {
+    let conjuncts = prepared.conjuncts_at(0).ok_or("no rule")?;
+    let conjunct = conjuncts.first().ok_or("no conjunct")?;
+    for (at, (cond, role, want)) in rows.iter().enumerate() {
+        let user = user_of(rt, alloc, prepared, cond)?;
+        let before = before_given(alloc, prepared, conjunct, *role, &user)?;
+        assert_eq!(rt; before_text(alloc, &before)?.as_str(), *want, "at {at}");
+    }
+    Ok(())
+}
+
+#[test]
+fn a_target_must_meet_this_before_an_act(rt: HostRuntime) -> Result<(), Fail> {
+    let alloc = rt.alloc();
+    let prepared = prepared_of(&rt, alloc, Cond::Has(0), range(1, 1), Vec::new(alloc))?;
+    assert_given(&rt, alloc, &prepared, &GIVEN)?;
+    for (at, (cond, role, want)) in TAKEN.iter().enumerate() {
+        let user = user_of(&rt, alloc, &prepared, cond)?;
+        let before = before_taken(alloc, *role, &user)?;
+        assert_eq!(&rt; before_text(alloc, &before)?.as_str(), *want, "at {at}");
+    }
+    let pairs = vec![in alloc; (1, 0), (1, 2)]?;
+    let paired = prepared_of(&rt, alloc, Cond::Any, range(1, 2), pairs)?;
+    assert_given(&rt, alloc, &paired, &GIVEN_IN_PAIRS)
 }
 
 /// A rule that gives c to whoever satisfies the condition.

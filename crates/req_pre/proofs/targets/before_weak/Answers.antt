@@ -2,8 +2,8 @@ use Rattle.std.proofs.Common.{◌∙◌, ap, sym, map, List, ℕ}
 use Rattle.std.specs.List.{list_any}
 use Rattle.role_order.specs.Roles.{without_role}
 use Rattle.arbac_laws.specs.PreImages.{is_empty}
-use Rattle.req_pre.proofs.BackwardLemmas.{weak_none, weak_some}
-use Rattle.req_pre.proofs.backwards.before_weak.Goals as goal
+use Rattle.req_pre.proofs.TargetLemmas.{weak_none, weak_some}
+use Rattle.req_pre.proofs.targets.before_weak.Goals as goal
 
 pub returns-then-has_alone : goal.returns-then-has_alone
 returns-then-has_alone c =

@@ -1,6 +1,6 @@
 use Rattle.std.proofs.Common.{◌≡◌, drop}
 use Rattle.arbac_laws.specs.PreImages.{is_barred}
-use Rattle.req_pre.proofs.backwards.is_barred.Given as goal
+use Rattle.req_pre.proofs.exclusions.is_barred.Given as goal
 
 -- what is left decides
 abbrev pub invariant-loop-pair : goal.invariant-loop-pair
