@@ -1,0 +1,6 @@
+pub mod KeepingLemmas
+mod AddingLemmas
+mod PickLemmas
+mod ListingLemmas
+mod UsefulLemmas
+mod RankingLemmas
