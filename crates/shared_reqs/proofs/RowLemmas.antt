@@ -1,13 +1,14 @@
 -- Shared user requirements by place, and rows of bits of whom they cover.
 use Rattle.std.proofs.Common.{ℕ, ◌≡◌, ◌<◌, ◌≤◌, ◌+◌, ◌^◌, ◌∙◌, Bool, true, false, ap}
-use Rattle.std.proofs.Common.{eqb, List, [], ◌∷◌, length, take, get_or, Option, Some, None, Vec, Global, suc, refl, sym, subst, arith, inl, inr}
-use Rattle.std.specs.Prelude.{◌⊎◌, ◌↔◌, IsTrue, IfSome, IfNone, is_some, nat_lt, slice_get, slice_set, bit_or}
+use Rattle.std.proofs.Common.{eqb, List, length, take, get_or, Option, Some, None, Vec, Global, refl, sym, subst, arith, inl, inr}
+use Rattle.std.specs.Prelude.{◌⊎◌, ◌↔◌, ◌==◌, if◌then◌else◌, not, IsTrue, IfSome, IfNone, is_some, nat_lt, slice_get, slice_set, bit_and, bit_or}
 use Rattle.std.specs.Int.{bit_at}
 use Rattle.std.specs.declared.sync.Arc.{Arc}
 use Rattle.std.proofs.lemmas.List.{length-map}
 use Rattle.std.proofs.lemmas.Bool.{eq-eqb, eqb-true}
 use Rattle.std.proofs.lemmas.Bool.Decides.{nat_tests}
 use Rattle.list_words.specs.Lists.{Some_of}
+use Rattle.list_words.specs.Embeds.{IsInjective}
 use Rattle.list_words.proofs.TestLemmas.{or_cases, or_right}
 use Rattle.list_words.proofs.GetLemmas.{same_some, get_below, get_there, get_at, get_map, get_take, get_taken, get_set_same, get_set_other}
 use Rattle.list_words.proofs.EachLemmas.{some_at}
@@ -15,7 +16,7 @@ use Rattle.list_words.proofs.PlaceLemmas.{from_places, to_places}
 use Rattle.list_words.proofs.CountLemmas.{embeds_long}
 use Rattle.role_order.specs.Masks.{has_bit}
 use Rattle.role_order.specs.MasksBack.{has_bit_of_one}
-use Rattle.role_order.proofs.MaskLemmas.{bit_of_true, has_bit-or, has_bit-pow, no_bit}
+use Rattle.role_order.proofs.MaskLemmas.{bit_of_true, bit_of_false, has_bit-or, has_bit-pow, no_bit, tested_bit}
 use Rattle.role_order.proofs.ClosureLemmas.{length_taken}
 use Rattle.hall_match.specs.Joined.{IsTransversal, IsLeastTransversal, JoinsAt}
 use Rattle.hall_match.proofs.JoinedLemmas.{none_embeds, transversal_places, places_transversal}
@@ -23,7 +24,7 @@ use Rattle.arbac_laws.specs.Needs.{Need, CoversNeed, Covers}
 use Rattle.mask_match.specs.declared.TheConstants.{MOST_PLACES}
 use Rattle.mask_match.specs.Rows.{HasBitAt, ArePlaced}
 use Rattle.shared_reqs.specs.Shared.{MarkedNeed, marked_of, needs_shared}
-use Rattle.shared_reqs.specs.CoverRows.{CoversThere, IsRow, AreRows}
+use Rattle.shared_reqs.specs.CoverRows.{CoversThere, IsRow, AreRows, ArePlacedIn}
 
 -- what is wanted of the user at a place
 need_there : (users : List (Arc MarkedNeed Global)) (k : ℕ) (user : Arc MarkedNeed Global) → slice_get users k ≡ Some user
@@ -193,32 +194,112 @@ not_few users others (inl many) both = let few = both.0 in omega (arith, many, f
 not_few users others (inr more) both =
     too_many (needs_shared users) (needs_shared others) (let us = needs_long users in let them = needs_long others in omega (arith, us, them, more.1)) both.1
 
--- one user alone covers the others where it covers one of them
-pub alone_covers : (users others : List Need) (user : Need) → length users ≡ 1 → slice_get users 0 ≡ Some user
-    → Some_of (CoversNeed user) others ↔ Covers users others
-alone_covers users others user one here = (λ some. to (place_of others some), from)
+not_true : (b : Bool) → not b ≡ false → b ≡ true
+not_true true e = refl
+not_true false e = cc e
+
+-- whether a bit isn't set, by the mask with that bit alone
+pub free_bit : (taken k : ℕ) → IsTrue (eqb (bit_and taken (2 ^ k)) 0) ↔ (bit_at taken k ≡ 0)
+free_bit taken k = by_test (has_bit taken k) refl
   where
-    place_of : (list : List Need) → Some_of (CoversNeed user) list → (place : ℕ) × CoversThere user list place
-    place_of [] some = absurd some
-    place_of (x ∷ xs) (inl covers) = (0, (x, refl, covers))
-    place_of (x ∷ xs) (inr some) = let rest = place_of xs some in (suc rest.0, rest.1)
+    by_test : (t : Bool) → has_bit taken k ≡ t → IsTrue (eqb (bit_and taken (2 ^ k)) 0) ↔ (bit_at taken k ≡ 0)
+    by_test true set = (
+      λ zero. let never : false ≡ true = ap not (sym zero) ∙ tested_bit taken k ∙ set in cc,
+      λ none. let never : 1 ≡ 0 = sym (bit_of_true taken k set) ∙ none in absurd (omega (arith, never)),
+    )
+    by_test false set = (λ zero. bit_of_false taken k set, λ none. not_true (eqb (bit_and taken (2 ^ k)) 0) (tested_bit taken k ∙ set))
 
-    to : (place : ℕ) × CoversThere user others place → Covers users others
-    to there = record {
-      to = λ i. there.0;
-      apart = λ i j l m e. omega (arith, l, m, one);
-      each = λ i x is. each i x is (get_below users i x is);
-    }
+-- nobody is placed yet
+pub none_placed : (users others : List Need) (taken : ℕ) → ArePlacedIn users others 0 taken
+none_placed users others taken = record {
+  to = λ at. at;
+  apart = λ i j l m e. e;
+  each = λ at user less here. absurd (omega (arith, less));
+}
+
+-- a lesser number is another
+other_number : (k at : ℕ) → k < at → eqb k at ≡ false
+other_number k at less = by_test (eqb k at) refl
+  where
+    by_test : (t : Bool) → eqb k at ≡ t → eqb k at ≡ false
+    by_test true e = let same = eqb-true k at e in absurd (omega (arith, less, same))
+    by_test false e = e
+
+-- one user more, at a place that was free
+pub one_placed : (users others : List Need) (at taken place : ℕ) (user : Need) → slice_get users at ≡ Some user → bit_at taken place ≡ 0
+    → CoversThere user others place → ArePlacedIn users others at taken → ArePlacedIn users others (at + 1) (bit_or taken (2 ^ place))
+one_placed users others at taken place user here free covers before = record { to = to; apart = apart; each = each }
+  where
+    to : ℕ → ℕ
+    to k = if k == at then place else before.to k
+
+    at_is : to at ≡ place
+    at_is = rw (eq-eqb at at refl) refl
+
+    other_is : (k : ℕ) → k < at → to k ≡ before.to k
+    other_is k less = rw (other_number k at less) refl
+
+    taken_there : (k : ℕ) → k < at → k < length users → bit_at taken (before.to k) ≡ 1
+    taken_there k less there = let user = get_there users k there in (before.each k user.0 less user.1).0
+
+    long : at < length users
+    long = get_below users at user here
+
+    differs : (k : ℕ) → k < at → before.to k ≡ place → ⊥
+    differs k less e =
+        let one : bit_at taken place ≡ 1 = subst (λ (p : ℕ). bit_at taken p ≡ 1) e (taken_there k less (omega (arith, less, long))) in
+        let never : 0 ≡ 1 = sym free ∙ one in absurd (omega (arith, never))
+
+    apart : IsInjective (at + 1) to
+    apart i j l m e = by_tests (eqb i at) (eqb j at) refl refl
       where
-        each : (i : ℕ) (x : Need) → slice_get users i ≡ Some x → i < length users
-            → (y : Need) × (slice_get others there.0 ≡ Some y) × CoversNeed x y
-        each i x is less =
-            let first : i ≡ 0 = omega (arith, less, one) in
-            let same : user ≡ x = same_some user x (sym here ∙ subst (λ (k : ℕ). slice_get users k ≡ Some x) first is) in
-            (there.1.0, there.1.1, subst (λ (v : Need). CoversNeed v there.1.0) same there.1.2)
+        by_tests : (s t : Bool) → eqb i at ≡ s → eqb j at ≡ t → i ≡ j
+        by_tests true true p q = eqb-true i at p ∙ sym (eqb-true j at q)
+        by_tests true false p q =
+            let less : j < at = grind (arith, nat_tests) in
+            absurd (differs j less (sym (other_is j less) ∙ sym e ∙ ap to (eqb-true i at p) ∙ at_is))
+        by_tests false true p q =
+            let less : i < at = grind (arith, nat_tests) in
+            absurd (differs i less (sym (other_is i less) ∙ e ∙ ap to (eqb-true j at q) ∙ at_is))
+        by_tests false false p q =
+            let a : i < at = grind (arith, nat_tests) in
+            let b : j < at = grind (arith, nat_tests) in
+            before.apart i j a b (sym (other_is i a) ∙ e ∙ other_is j b)
 
-    from : Covers users others → Some_of (CoversNeed user) others
-    from c = let there = c.each 0 user here in some_at (CoversNeed user) others (c.to 0) there.0 there.1 there.2
+    each : (k : ℕ) (one : Need) → k < at + 1 → slice_get users k ≡ Some one
+        → (bit_at (bit_or taken (2 ^ place)) (to k) ≡ 1) × CoversThere one others (to k)
+    each k one less there = by_test (eqb k at) refl
+      where
+        by_test : (t : Bool) → eqb k at ≡ t → (bit_at (bit_or taken (2 ^ place)) (to k) ≡ 1) × CoversThere one others (to k)
+        by_test true e =
+            let same_place : k ≡ at = eqb-true k at e in
+            let same : user ≡ one = same_some user one (sym here ∙ subst (λ (p : ℕ). slice_get users p ≡ Some one) same_place there) in
+            let is : place ≡ to k = sym at_is ∙ ap to (sym same_place) in
+            subst (λ (p : ℕ). (bit_at (bit_or taken (2 ^ place)) p ≡ 1) × CoversThere one others p) is
+            ((bit_more taken place place).1 (inr refl), subst (λ (x : Need). CoversThere x others place) same covers)
+        by_test false e =
+            let less : k < at = grind (arith, nat_tests) in
+            let old = before.each k one less there in
+            let is : before.to k ≡ to k = sym (other_is k less) in
+            subst (λ (p : ℕ). (bit_at (bit_or taken (2 ^ place)) p ≡ 1) × CoversThere one others p) is
+            ((bit_more taken place (before.to k)).1 (inl old.0), old.1)
+
+-- where all are placed, they cover the others
+pub placed_all : (users others : List Need) (at taken : ℕ) → length users ≤ at → ArePlacedIn users others at taken → Covers users others
+placed_all users others at taken all placed = record {
+  to = placed.to;
+  apart = λ i j l m e. placed.apart i j (omega (arith, l, all)) (omega (arith, m, all)) e;
+  each = λ k user here.
+      let less = get_below users k user here in
+      let own = placed.each k user (omega (arith, less, all)) here in
+      (own.1.0, own.1.1, own.1.2);
+}
+
+-- a user who covers nobody leaves no cover
+pub one_alone : (users others : List Need) (at : ℕ) (user : Need) → slice_get users at ≡ Some user → ¬ Some_of (CoversNeed user) others
+    → ¬ Covers users others
+one_alone users others at user here none c =
+    let there = c.each at user here in none (some_at (CoversNeed user) others (c.to at) there.0 there.1 there.2)
 
 -- where both items are there, the test decides
 pub joins_there : (users others : List Need) (k u : ℕ) (user other : Need) (t : Bool) → slice_get users k ≡ Some user

@@ -1,12 +1,13 @@
 //! Cover tests: where there are few others, the bits of a row tell whom a user requirement covers, and no memory is taken.
 
-ghost use Rattle.std.specs.Prelude.{◌≡◌, ◌↔◌, ◌≤◌, ◌<◌, ◌^◌, length, IsTrue, IfOk};
+ghost use Rattle.std.specs.Prelude.{◌≡◌, ◌↔◌, ◌≤◌, ◌<◌, ◌^◌, length, IsTrue, IfOk, IfSome};
+ghost use Rattle.std.specs.Int.{bit_at};
 ghost use Rattle.list_words.specs.Lists.{Some_of};
 ghost use Rattle.hall_match.specs.Joined.{JoinsAt};
 ghost use Rattle.mask_match.specs.declared.TheConstants.{MOST_PLACES};
 ghost use Rattle.arbac_laws.specs.Needs.{CoversNeed, Covers};
 ghost use Rattle.shared_reqs.specs.Shared.{needs_shared};
-ghost use Rattle.shared_reqs.specs.CoverRows.{IsRow};
+ghost use Rattle.shared_reqs.specs.CoverRows.{CoversThere, IsRow};
 
 use crate::NoMemory;
 use crate::user::MarkedUser;
@@ -67,6 +68,50 @@ fn covers_by_rows(users: &[Arc<MarkedUser>], others: &[Arc<MarkedUser>]) -> bool
     all_placed(&rows[..users.len()])
 }
 
+/// Whether the bit of the place isn't set.
+fn is_free(taken: u128, place: usize) -> bool
+    requires { place < MOST_PLACES }
+    ensures { IsTrue result ↔ (bit_at taken place ≡ 0) }
+{
+    taken & bit(place) == 0
+}
+
+/// The first place that isn't taken, and at which stands one of the others whom the user covers.
+fn first_free(user: &UserReq, others: &[Arc<MarkedUser>], taken: u128) -> Option<usize>
+    requires { length others.now ≤ MOST_PLACES }
+    ensures { IfSome result (λ place. (bit_at taken place ≡ 0) × CoversThere user.now (needs_shared others.now) place) }
+{
+    for (place, other) in others.iter().enumerate() {
+        if is_free(taken, place) && covers_user(user, other.user()) {
+            return Some(place);
+        }
+    }
+    None
+}
+
+/// Whether the users cover the others, each of them a different one, if that shows where each user in turn takes the first
+/// one that is free. So it does nearly always.
+fn covers_in_turn(users: &[Arc<MarkedUser>], others: &[Arc<MarkedUser>]) -> Option<bool>
+    requires { length others.now ≤ MOST_PLACES }
+    ensures { IfSome result (λ answer. IsTrue answer ↔ Covers (needs_shared users.now) (needs_shared others.now)) }
+{
+    let mut taken = 0;
+    for user in users {
+        match first_free(user.user(), others, taken) {
+            Some(place) => {
+                taken = taken | bit(place);
+            }
+            None => {
+                if covers_one(user.user(), others) {
+                    return None;
+                }
+                return Some(false);
+            }
+        }
+    }
+    Some(true)
+}
+
 /// Whether the users cover the others, where these are at most `MOST_PLACES`; where they are more, it says no.
 pub fn covers_few(users: &[Arc<MarkedUser>], others: &[Arc<MarkedUser>]) -> bool
     ensures { IsTrue result ↔ ((length others.now ≤ MOST_PLACES) × Covers (needs_shared users.now) (needs_shared others.now)) }
@@ -74,10 +119,10 @@ pub fn covers_few(users: &[Arc<MarkedUser>], others: &[Arc<MarkedUser>]) -> bool
     if others.len() > MOST_PLACES || users.len() > others.len() {
         return false;
     }
-    if users.len() == 1 {
-        return covers_one(users[0].user(), others);
+    match covers_in_turn(users, others) {
+        Some(answer) => answer,
+        None => covers_by_rows(users, others),
     }
-    covers_by_rows(users, others)
 }
 
 /// Users, and others that they may cover.

@@ -1,4 +1,3 @@
-use Rattle.arbac_laws.specs.Needs.{Need}
 use Rattle.need_marks.specs.Marks.{AreUserMarks}
 use Rattle.shared_reqs.specs.Shared.{needs_marked}
 use Rattle.shared_reqs.proofs.index.mark_of.Goals as goal
