@@ -119,7 +119,34 @@ const ENG: Case = Case {
     want: "closed 3 user hit DIR DSO PSO1 PSO2; user hit PL1 DIR; user hit PE1 PL1 DIR hit QE1 PL1 DIR hit SSO DSO PSO1; user hit PE1 PL1 DIR hit QE1 PL1 DIR user hit SSO DSO PSO1;",
 };
 
-const CASES: [Case; 11] = [
+/// Members of adm give a and b, of which nobody may come to have both.
+const APART: Case = Case {
+    names: &["adm", "a", "b"],
+    edges: &[],
+    pairs: &[(1, 2)],
+    assign: &[(0, "any", 1, 1), (0, "any", 2, 2)],
+    revoke: &[],
+    profiles: &[(&[0], Some(1))],
+    goal: &["a and b"],
+    barrier: &[],
+    limit: 4096,
+    want: "closed 1 user hit a hit b;",
+};
+
+/// The rules of the department, but that who is in quality may come into production too.
+const BOTH: &[(u16, &'static str, u16, u16)] = &[
+    (11, "E", 1, 1),
+    (13, "ED", 2, 2),
+    (13, "E1 and not QE1", 3, 3),
+    (13, "E1", 4, 4),
+    (13, "PE1 and QE1", 5, 5),
+    (14, "ED", 6, 6),
+    (14, "E2 and not QE2", 7, 7),
+    (14, "E2 and not PE2", 8, 8),
+    (14, "PE2 and QE2", 9, 9),
+];
+
+const CASES: [Case; 14] = [
     MIX,
     Case {
         profiles: &[(&[0], Some(2))],
@@ -164,6 +191,17 @@ const CASES: [Case; 11] = [
         ..STILL
     },
     ENG,
+    Case {
+        assign: BOTH,
+        want: "found 13 start 0 1 assign 1 0 ED assign 1 0 E1 assign 1 0 PE1 assign 1 0 QE1 assign 1 0 PL1",
+        ..ENG
+    },
+    APART,
+    Case {
+        pairs: &[],
+        want: "found 5 start 0 assign 0 0 a assign 0 0 b",
+        ..APART
+    },
 ];
 
 fn order_of(rt: &impl Abort, alloc: Global, case: &Case) -> Result<Order, Fail> {
@@ -456,8 +494,8 @@ fn small_questions_end_as_they_should(rt: HostRuntime) -> Result<(), Fail> {
     Ok(())
 }
 
-/// The rounds of the first question, one by one, by the entries of its search with a limit.
-fn round_text(rt: &impl Abort, alloc: Global) -> Result<String, Fail> {
+/// The second round of the first question, by so many workers.
+fn round_text(rt: &impl Abort, alloc: Global, workers: u32) -> Result<String, Fail> {
     let prepared = prepared_of(rt, alloc, &MIX)?;
     let order = prepared.policy().order();
     let goal = goal_of(rt, alloc, order, MIX.goal)?;
@@ -465,7 +503,7 @@ fn round_text(rt: &impl Abort, alloc: Global) -> Result<String, Fail> {
     let outcome = search(alloc, &prepared, &[], &goal, &[], 1, 1, &NoGate)?;
     if let Outcome::Limit { recorded, .. } = &outcome {
         if !recorded.is_empty() {
-            let made = round(alloc, &prepared, recorded, 0, &[], 2, &NoGate)?;
+            let made = round(alloc, &prepared, recorded, 0, &[], workers, &NoGate)?;
             for entry in &made.unbeaten {
                 put_entry(alloc, &mut text, order, entry)?;
             }
@@ -476,10 +514,12 @@ fn round_text(rt: &impl Abort, alloc: Global) -> Result<String, Fail> {
 
 #[test]
 fn a_round_by_itself(rt: HostRuntime) -> Result<(), Fail> {
-    let text = round_text(&rt, rt.alloc())?;
-    assert_eq!(&rt;
-        text.as_str(),
-        " pre 0 assign 0 0 c 0 new user lack adm user hit adm;"
-    );
+    for workers in [1, 16] {
+        let text = round_text(&rt, rt.alloc(), workers)?;
+        assert_eq!(&rt;
+            text.as_str(),
+            " pre 0 assign 0 0 c 0 new user lack adm user hit adm;"
+        );
+    }
     Ok(())
 }

@@ -3,7 +3,6 @@ use Rattle.std.specs.Prelude.{List, map}
 use Rattle.list_words.specs.Lists.{Each}
 use Rattle.role_order.specs.Graph.{Graph}
 use Rattle.arbac_laws.specs.Recorded.{Origin as From, Entry, of_goal, of_parent}
-use Rattle.arbac_laws.specs.Views.{need_of}
 use Rattle.req_pre.specs.Views.{owed_of}
 use Rattle.shared_reqs.specs.Shared.{AreOwnMarks, needs_marked}
 use Rattle.search_rounds.specs.declared.candidate.Candidate.{Candidate}

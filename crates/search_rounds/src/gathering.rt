@@ -14,8 +14,8 @@ use std::alloc::{AllocError, Global};
 use std::marker::Model;
 use std::sync::Arc;
 
-/// The requirements that were known before a round, all that were made so far, and those of the round that are kept: they
-/// are new, and none of them was made before.
+/// The requirements that were known before a round, all that were made so far, and those of the round that are kept: no known one
+/// covers them.
 #[derive(Drop)]
 pub struct Gathering<'a> {
     index: Index<'a>,
