@@ -1,0 +1,4 @@
+pub mod PairLemmas
+pub mod NameLemmas
+pub mod RuleLemmas
+pub mod KeepLemmas
