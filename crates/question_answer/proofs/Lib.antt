@@ -1,0 +1,4 @@
+pub mod PosingLemmas
+pub mod KnownLemmas
+pub mod WrittenLemmas
+pub mod AnswerLemmas

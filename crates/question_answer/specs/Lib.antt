@@ -1,0 +1,3 @@
+pub mod Posing
+pub mod Outcomes
+pub mod Answers
