@@ -1,6 +1,10 @@
 pub mod AnswerLemmas
 pub mod FetchLemmas
+pub mod FileLemmas
 pub mod ReplayLemmas
+pub mod QuestionLemmas
 pub mod CheckLemmas
 pub mod JudgedLemmas
+pub mod AskLemmas
+pub mod MakeLemmas
 pub mod CommandLemmas

@@ -40,6 +40,17 @@ pub record IsUnread (name : List ℕ) (shelf shelf' : ShelfView) (status : ℕ) 
   pub missed : HasMissed shelf shelf' name
   pub text_is : text ≡ read_fault_line name
 
+-- the file was read, and its bytes have this reply, as Replies says
+pub record IsRead (Replies : List ℕ → ℕ → List ℕ → Type 0) (name : List ℕ) (shelf shelf' : ShelfView) (status : ℕ) (text : List ℕ) : Type 0 where
+  pub fetched : HasFetched shelf shelf'
+  pub bytes : List ℕ
+  pub told : AreTold (shelf.told name) bytes
+  pub reply : Replies bytes status text
+
+-- what is to be written of one file, and with which status
+abbrev pub IsFileReply : (List ℕ → ℕ → List ℕ → Type 0) → List ℕ → ShelfView → ShelfView → ℕ → List ℕ → Type 0
+IsFileReply Replies name shelf shelf' status text = IsRead Replies name shelf shelf' status text ⊎ IsUnread name shelf shelf' status text
+
 -- the status and the text are those of the reply, where there is one
 abbrev pub IsOf : Result Reply AllocError → ℕ → List ℕ → Type 0
 IsOf (Ok reply) status text = (status ≡ reply.status) × (text ≡ reply.text.items)
@@ -70,6 +81,12 @@ pub record IsOutOfMemory (Wants : ℕ → List ℕ → Type 0) (sink sink' : Sin
 -- what comes of writing one text
 abbrev pub Says : (ℕ → List ℕ → Type 0) → SinkView → SinkView → ℕ → Type 0
 Says Wants sink sink' status = IsSaid Wants sink sink' status ⊎ (IsUnsaid Wants sink sink' status ⊎ IsOutOfMemory Wants sink sink' status)
+
+-- the answer to a command of one file: it is fetched, and one text is written
+pub record IsFileAnswer (Replies : List ℕ → ℕ → List ℕ → Type 0) (name : List ℕ) (shelf shelf' : ShelfView) (sink sink' : SinkView) (status : ℕ)
+    : Type 0 where
+  pub asked : HasFetched shelf shelf' ⊎ HasMissed shelf shelf' name
+  pub says : Says (IsFileReply Replies name shelf shelf') sink sink' status
 
 -- the answer to words of no written form: the usage line, and the shelf isn't asked
 pub record IsUsageAnswer (shelf shelf' : ShelfView) (sink sink' : SinkView) (status : ℕ) : Type 0 where

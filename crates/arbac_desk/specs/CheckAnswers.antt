@@ -1,47 +1,24 @@
 -- What `check` answers, by the bytes of its two files.
 use Rattle.std.specs.Prelude.{ℕ, ◌≡◌, ◌≢◌, ◌<◌, ◌≤◌, ◌⊎◌, true, List, length, Ok}
-use Rattle.arbac_policy.specs.Goals.{IsReachable}
 use Rattle.question_text.specs.declared.question.Question.{Question}
-use Rattle.question_text.specs.declared.question_error.QuestionError.{QuestionError}
-use Rattle.question_text.specs.declared.question_error.QuestionError.TheVariants as questions
-use Rattle.question_text.specs.Values.{QuestionValue, plain_of}
+use Rattle.question_text.specs.Values.{QuestionValue}
 use Rattle.question_text.specs.Documents.{document}
-use Rattle.question_text.specs.Rules.{KeepsRules}
-use Rattle.question_text.specs.Answers.{IsToldBy, fault_of}
 use Rattle.cert_text.specs.declared.cert_error.CertError.{CertError}
 use Rattle.cert_text.specs.declared.cert_error.CertError.TheVariants as certs
-use Rattle.cert_text.specs.Certificates.{Certificate, reachable, unreachable, undecided}
+use Rattle.cert_text.specs.Certificates.{Certificate}
 use Rattle.cert_text.specs.Drafts.{StandsFor}
 use Rattle.cert_text.specs.Faults.{IsFirstFault}
-use Rattle.cert_check.specs.Asked.{Asked, Reason, HasProperty, FailsFirst}
+use Rattle.cert_check.specs.Asked.{Reason, HasProperty, FailsFirst}
 use Rattle.cert_check.specs.Judgements.{asked_by}
 use Rattle.desk_ports.specs.Shelves.{ShelfView}
 use Rattle.desk_ports.specs.Sinks.{SinkView}
-use Rattle.desk_texts.specs.Faults.{question_fault, cert_fault, too_long}
+use Rattle.desk_texts.specs.Faults.{cert_fault, too_long}
 use Rattle.desk_texts.specs.Lines.{malformed_line}
 use Rattle.arbac_desk.specs.declared.TheConstants.{MOST_QUESTION_BYTES, MOST_CERT_BYTES}
 use Rattle.arbac_desk.specs.Statuses.{DONE, MALFORMED, REFUSED}
-use Rattle.arbac_desk.specs.Answers.{AreTold, HasFetched, HasMissed, IsUnread, Says}
+use Rattle.arbac_desk.specs.Answers.{AreTold, HasFetched, HasMissed, IsUnread, IsFileReply, Says}
+use Rattle.arbac_desk.specs.Questions.{IsQuestion, IsMalformedQuestion, Shows}
 use Rattle.arbac_desk.specs.CheckTexts.{accepted_text, refused_text}
-
--- the bytes, few enough, are a question with a goal, and no other question
-pub record IsQuestion (bytes : List ℕ) (question : Question) : Type 0 where
-  pub few : length bytes ≤ MOST_QUESTION_BYTES
-  pub stands : document true bytes (Ok (plain_of question))
-  pub only : (value : QuestionValue) → document true bytes (Ok value) → plain_of question ≡ value
-  pub keeps : KeepsRules (plain_of question)
-
--- the bytes are no question with a goal, and this is their first fault
-pub record IsNoQuestion (bytes : List ℕ) (fault : QuestionError) : Type 0 where
-  pub first : IsToldBy (document true bytes) (fault_of fault)
-  pub told : fault ≢ questions.Memory
-  pub none : (value : QuestionValue) → ¬ document true bytes (Ok value)
-
--- the bytes of QUESTION are too many, or no question with a goal; the line names the file and the fault
-abbrev pub IsMalformedQuestion : List ℕ → List ℕ → List ℕ → Type 0
-IsMalformedQuestion name bytes text =
-    ((MOST_QUESTION_BYTES < length bytes) × (text ≡ malformed_line name too_long))
-    ⊎ ((length bytes ≤ MOST_QUESTION_BYTES) × (fault : QuestionError) × IsNoQuestion bytes fault × (text ≡ malformed_line name (question_fault fault)))
 
 -- the bytes, few enough, are a certificate text under the names of the question's roles
 pub record IsCert (question : Question) (bytes : List ℕ) (cert : Certificate) : Type 0 where
@@ -59,12 +36,6 @@ abbrev pub IsMalformedCert : Question → List ℕ → List ℕ → List ℕ →
 IsMalformedCert question name bytes text =
     ((MOST_CERT_BYTES < length bytes) × (text ≡ malformed_line name too_long))
     ⊎ ((length bytes ≤ MOST_CERT_BYTES) × (fault : CertError) × IsNoCert question bytes fault × (text ≡ malformed_line name (cert_fault fault)))
-
--- what a certificate that has its property shows of the question: its goal can be reached, or can't
-abbrev pub Shows : Asked → Certificate → Type 0
-Shows asked (reachable start acts) = IsReachable asked.rules asked.profiles asked.goal
-Shows asked (unreachable needs) = ¬ IsReachable asked.rules asked.profiles asked.goal
-Shows asked (undecided limit recorded next) = Unit {0}
 
 -- the certificate has its property
 pub record IsAccepted (question : Question) (bytes text : List ℕ) : Type 0 where
@@ -90,16 +61,9 @@ IsReplyToCert question name bytes status text =
     ⊎ (((status ≡ REFUSED) × IsRefused question bytes text)
     ⊎ ((status ≡ MALFORMED) × IsMalformedCert question name bytes text))
 
--- CERT was read, and its bytes have this reply under the question
-pub record IsJudged (question : Question) (name : List ℕ) (shelf shelf' : ShelfView) (status : ℕ) (text : List ℕ) : Type 0 where
-  pub fetched : HasFetched shelf shelf'
-  pub bytes : List ℕ
-  pub told : AreTold (shelf.told name) bytes
-  pub reply : IsReplyToCert question name bytes status text
-
 -- under this question, what is to be written of CERT
 abbrev pub IsReplyWith : Question → List ℕ → ShelfView → ShelfView → ℕ → List ℕ → Type 0
-IsReplyWith question name shelf shelf' status text = IsJudged question name shelf shelf' status text ⊎ IsUnread name shelf shelf' status text
+IsReplyWith question name = IsFileReply (IsReplyToCert question name) name
 
 -- the bytes of QUESTION are no question with a goal; CERT isn't fetched
 pub record IsUnasked (name bytes : List ℕ) (shelf shelf' : ShelfView) (status : ℕ) (text : List ℕ) : Type 0 where
@@ -109,6 +73,7 @@ pub record IsUnasked (name bytes : List ℕ) (shelf shelf' : ShelfView) (status 
 
 -- the bytes of QUESTION are a question with a goal, and CERT has this reply under it
 pub record IsAsked (bytes cert_name : List ℕ) (shelf shelf' : ShelfView) (status : ℕ) (text : List ℕ) : Type 0 where
+  pub few : length bytes ≤ MOST_QUESTION_BYTES
   pub question : Question
   pub is_question : IsQuestion bytes question
   pub reply : IsReplyWith question cert_name shelf shelf' status text

@@ -1,8 +1,12 @@
 pub mod Statuses
 pub mod Commands
 pub mod Answers
+pub mod Questions
 pub mod ReplayTexts
 pub mod ReplayAnswers
 pub mod CheckTexts
 pub mod CheckAnswers
+pub mod AskAnswers
+pub mod Headline
+pub mod MakeAnswers
 pub mod CommandAnswers

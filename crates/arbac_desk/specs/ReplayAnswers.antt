@@ -17,7 +17,7 @@ use Rattle.desk_texts.specs.Faults.{run_fault, too_long}
 use Rattle.desk_texts.specs.Lines.{malformed_line}
 use Rattle.arbac_desk.specs.declared.TheConstants.{MOST_RUN_BYTES}
 use Rattle.arbac_desk.specs.Statuses.{DONE, MALFORMED, REFUSED}
-use Rattle.arbac_desk.specs.Answers.{AreTold, HasFetched, HasMissed, IsUnread, Says}
+use Rattle.arbac_desk.specs.Answers.{IsFileReply, IsFileAnswer}
 use Rattle.arbac_desk.specs.ReplayTexts.{done_text, unmet_text, stopped_text}
 
 -- the bytes, few enough, are a run text, and its acts are a run from its users to these sets
@@ -75,21 +75,13 @@ IsReplyTo name bytes status text =
     ⊎ (((status ≡ REFUSED) × (IsUnmet bytes text ⊎ IsStopped bytes text))
     ⊎ ((status ≡ MALFORMED) × IsMalformed name bytes text))
 
--- the file was read, and its bytes have this reply
-pub record IsReplied (name : List ℕ) (shelf shelf' : ShelfView) (status : ℕ) (text : List ℕ) : Type 0 where
-  pub fetched : HasFetched shelf shelf'
-  pub bytes : List ℕ
-  pub told : AreTold (shelf.told name) bytes
-  pub reply : IsReplyTo name bytes status text
-
 -- what is to be written, and with which status
 abbrev pub IsReplayReply : List ℕ → ShelfView → ShelfView → ℕ → List ℕ → Type 0
-IsReplayReply name shelf shelf' status text = IsReplied name shelf shelf' status text ⊎ IsUnread name shelf shelf' status text
+IsReplayReply name = IsFileReply (IsReplyTo name) name
 
 -- the answer to `replay RUN`: one file is fetched, and one text is written
-pub record IsReplayAnswer (run : List ℕ) (shelf shelf' : ShelfView) (sink sink' : SinkView) (status : ℕ) : Type 0 where
-  pub asked : HasFetched shelf shelf' ⊎ HasMissed shelf shelf' run
-  pub says : Says (IsReplayReply run shelf shelf') sink sink' status
+abbrev pub IsReplayAnswer : List ℕ → ShelfView → ShelfView → SinkView → SinkView → ℕ → Type 0
+IsReplayAnswer run = IsFileAnswer (IsReplyTo run) run
 
 -- the bytes, few enough, are a run text
 abbrev pub IsRunText : List ℕ → Type 0

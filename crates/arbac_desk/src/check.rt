@@ -3,7 +3,6 @@
 ghost use Rattle.std.specs.Prelude.{ℕ, ◌≡◌, ◌⊎◌, ◌<◌, ◌≤◌, true, length, IfOk, List, IsTrue, ◌↔◌, Ok};
 ghost use Rattle.question_text.specs.Values as questions;
 ghost use Rattle.question_text.specs.Rules.{KeepsRules};
-ghost use Rattle.question_text.specs.declared.question_error.QuestionError.TheVariants as question_errors;
 ghost use Rattle.cert_text.specs.Certificates.{plain_of, IsCertificate};
 ghost use Rattle.cert_text.specs.Drafts.{StandsFor};
 ghost use Rattle.cert_text.specs.declared.cert_error.CertError.TheVariants as cert_errors;
@@ -14,6 +13,7 @@ ghost use Rattle.arbac_desk.specs.CheckAnswers.{HasAskedBoth, IsCheckAnswer};
 
 mod texts;
 
+use crate::documents::is_memory;
 use crate::reply::{Reply, reply_malformed, reply_unread, say_reply};
 use crate::status::{DONE, REFUSED, Status};
 use crate::{MOST_CERT_BYTES, MOST_QUESTION_BYTES};
@@ -21,7 +21,7 @@ use cert_check::{Judgement, check, closed_list_law, judgement_laws};
 use cert_text::{Cert, CertError, read_cert};
 use desk_ports::{Shelf, ShelfError, Sink};
 use desk_texts::TooLong;
-use question_text::{Question, QuestionError, read_question};
+use question_text::{Question, read_question};
 use std::alloc::{AllocError, Global};
 use texts::{accepted, refused};
 
@@ -97,12 +97,6 @@ fn reply_from_cert<H: Shelf>(
     }
 }
 
-fn is_question_memory(error: &QuestionError) -> bool
-    ensures { IsTrue result ↔ (error.now ≡ question_errors.Memory) }
-{
-    matches!(error, QuestionError::Memory)
-}
-
 /// The reply to the bytes of the question's file.
 fn reply_to_question<H: Shelf>(
     alloc: Global,
@@ -121,7 +115,7 @@ fn reply_to_question<H: Shelf>(
     match read_question(alloc, bytes, true) {
         Ok(asked) => reply_from_cert(alloc, &asked, cert, shelf),
         Err(error) => {
-            if is_question_memory(&error) {
+            if is_memory(&error) {
                 return Err(AllocError);
             }
             reply_malformed(alloc, question, &error)

@@ -3,7 +3,7 @@
 /// A number of the table of statuses.
 pub type Status = u8;
 
-/// All acts were accepted, and the goal is met; or the certificate has its property.
+/// All acts were accepted, and the goal is met; or the certificate has its property; or the sample was searched.
 pub const DONE: Status = 0;
 
 /// The words are of no written form.
@@ -21,5 +21,14 @@ pub const WRITE_FAULT: Status = 5;
 /// No memory was left.
 pub const NO_MEMORY: Status = 7;
 
+/// The question is reachable.
+pub const REACHABLE: Status = 10;
+
+/// The question isn't reachable.
+pub const UNREACHABLE: Status = 20;
+
 /// An act was refused, or the goal isn't met; or the certificate hasn't its property.
 pub const REFUSED: Status = 21;
+
+/// The limit of recorded requirements came first.
+pub const UNDECIDED: Status = 30;

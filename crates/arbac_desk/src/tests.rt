@@ -1,5 +1,6 @@
 //! The top call over a shelf and a sink in memory: run texts, other words, and calls that fail.
 
+mod asked;
 mod judged;
 mod rows;
 
@@ -12,7 +13,7 @@ use std::test::Fail;
 
 /// What the call is given, and what it must do.
 struct Row {
-    words: &'static [&'static str],
+    words: &'static str,
     acts: &'static str,
     shelf_fails: u64,
     sink_fails: u64,
@@ -25,7 +26,7 @@ const USAGE: &str =
 
 const ROWS: [Row; 14] = [
     Row {
-        words: &[],
+        words: "",
         acts: "end\n",
         shelf_fails: 0,
         sink_fails: 0,
@@ -33,7 +34,7 @@ const ROWS: [Row; 14] = [
         output: USAGE,
     },
     Row {
-        words: &["serve", "r.txt"],
+        words: "serve r.txt",
         acts: "end\n",
         shelf_fails: 0,
         sink_fails: 1,
@@ -41,7 +42,7 @@ const ROWS: [Row; 14] = [
         output: "",
     },
     Row {
-        words: &["replay", "-r"],
+        words: "replay -r",
         acts: "goal c\nend\n",
         shelf_fails: 0,
         sink_fails: 0,
@@ -49,7 +50,7 @@ const ROWS: [Row; 14] = [
         output: USAGE,
     },
     Row {
-        words: &["replay", ""],
+        words: "replay ''",
         acts: "goal c\nend\n",
         shelf_fails: 0,
         sink_fails: 0,
@@ -57,7 +58,7 @@ const ROWS: [Row; 14] = [
         output: USAGE,
     },
     Row {
-        words: &["replay", "r.txt", "r.txt"],
+        words: "replay r.txt r.txt",
         acts: "goal c\nend\n",
         shelf_fails: 0,
         sink_fails: 0,
@@ -65,7 +66,7 @@ const ROWS: [Row; 14] = [
         output: USAGE,
     },
     Row {
-        words: &["check", "r.txt"],
+        words: "check r.txt",
         acts: "goal c\nend\n",
         shelf_fails: 0,
         sink_fails: 0,
@@ -73,7 +74,7 @@ const ROWS: [Row; 14] = [
         output: USAGE,
     },
     Row {
-        words: &["check", "r.txt", "-c"],
+        words: "check r.txt -c",
         acts: "goal c\nend\n",
         shelf_fails: 0,
         sink_fails: 0,
@@ -81,7 +82,7 @@ const ROWS: [Row; 14] = [
         output: USAGE,
     },
     Row {
-        words: &["replay", "r"],
+        words: "replay r",
         acts: "goal c\nend\n",
         shelf_fails: 1,
         sink_fails: 0,
@@ -89,7 +90,7 @@ const ROWS: [Row; 14] = [
         output: "read fault: r\n",
     },
     Row {
-        words: &["replay", "r"],
+        words: "replay r",
         acts: "goal c\nend\n",
         shelf_fails: 1,
         sink_fails: 1,
@@ -97,7 +98,7 @@ const ROWS: [Row; 14] = [
         output: "",
     },
     Row {
-        words: &["replay", "empty"],
+        words: "replay empty",
         acts: "goal c\nend\n",
         shelf_fails: 0,
         sink_fails: 0,
@@ -105,7 +106,7 @@ const ROWS: [Row; 14] = [
         output: "malformed empty: NoRoles\n",
     },
     Row {
-        words: &["replay", "r.txt"],
+        words: "replay r.txt",
         acts: "goal c\n",
         shelf_fails: 0,
         sink_fails: 1,
@@ -113,7 +114,7 @@ const ROWS: [Row; 14] = [
         output: "",
     },
     Row {
-        words: &["replay", "r.txt"],
+        words: "replay r.txt",
         acts: "goal adm\nend\n",
         shelf_fails: 0,
         sink_fails: 1,
@@ -121,7 +122,7 @@ const ROWS: [Row; 14] = [
         output: "",
     },
     Row {
-        words: &["replay", "r.txt"],
+        words: "replay r.txt",
         acts: "goal c\nend\n",
         shelf_fails: 0,
         sink_fails: 1,
@@ -129,7 +130,7 @@ const ROWS: [Row; 14] = [
         output: "",
     },
     Row {
-        words: &["replay", "r.txt"],
+        words: "replay r.txt",
         acts: "act weak 5 0 adm\ngoal c\nend\n",
         shelf_fails: 0,
         sink_fails: 1,
@@ -144,9 +145,14 @@ fn text_of(alloc: Global, begun: &str, rest: &[u8]) -> Result<Vec<u8>, AllocErro
     Ok(text)
 }
 
-fn words_of(alloc: Global, words: &[&'static str]) -> Result<Vec<String>, AllocError> {
+/// The words of a line, none of an empty one; a word `''` is the empty one.
+fn words_of(alloc: Global, line: &str) -> Result<Vec<String>, AllocError> {
     let mut owned = Vec::new(alloc);
-    for word in words {
+    if line.is_empty() {
+        return Ok(owned);
+    }
+    for word in line.split(' ') {
+        let word = if word == "''" { "" } else { word };
         owned.push(String::from_str(alloc, word)?)?;
     }
     Ok(owned)
@@ -176,7 +182,7 @@ fn answer_to(alloc: Global, text: Vec<u8>) -> Result<Vec<u8>, AllocError> {
     let files = vec![in alloc; (String::from_str(alloc, "r.txt")?, text)]?;
     let mut shelf = MemShelf::new(alloc, files, Vec::new(alloc));
     let mut sink = MemSink::new(alloc, Vec::new(alloc));
-    let words = words_of(alloc, &["replay", "r.txt"])?;
+    let words = words_of(alloc, "replay r.txt")?;
     let status = arbac_desk(alloc, &words, &mut shelf, &mut sink);
     let mut answer = Vec::from_slice(alloc, format!(in alloc; "{status}\n")?.as_bytes())?;
     answer.extend_from_slice(sink.taken())?;

@@ -169,12 +169,12 @@ end
 refused StepRefused act 0 NoCondition a rule 0
 "#;
 
-const WORDS: &[&'static str] = &["check", "q.toml", "c.txt"];
+const WORDS: &str = "check q.toml c.txt";
 
 /// The status of these words over the two texts, and behind a line feed what is written.
 fn answer_to(
     alloc: Global,
-    words: &[&'static str],
+    words: &str,
     question: Vec<u8>,
     cert: Vec<u8>,
     shelf_fails: u64,

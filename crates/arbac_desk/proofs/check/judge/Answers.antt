@@ -2,7 +2,7 @@ use Rattle.std.proofs.Common.{refl, inl}
 use Rattle.cert_text.specs.Certificates.{plain_of}
 use Rattle.cert_check.specs.Asked.{HasProperty}
 use Rattle.cert_check.specs.Judgements.{asked_by}
-use Rattle.arbac_desk.proofs.CheckLemmas.{shown}
+use Rattle.arbac_desk.proofs.QuestionLemmas.{shown}
 use Rattle.arbac_desk.proofs.check.judge.Goals as goal
 
 -- the certificate has its property, and shows how the question stands

@@ -1,4 +1,4 @@
-use Rattle.std.proofs.Common.{ℕ, ◌≡◌, ◌∙◌, List, arith, inr, sym, refl, subst}
+use Rattle.std.proofs.Common.{◌≡◌, ◌∙◌, arith, inr, sym, refl, subst}
 use Rattle.std.proofs.lemmas.Bool.{false≢true}
 use Rattle.role_order.specs.Graph.{Graph}
 use Rattle.cert_text.specs.declared.cert_error.CertError.TheVariants as certs
@@ -9,7 +9,7 @@ use Rattle.desk_texts.specs.Faults.{cert_fault}
 use Rattle.desk_texts.specs.Lines.{malformed_line}
 use Rattle.arbac_desk.specs.CheckAnswers.{IsReplyToCert}
 use Rattle.arbac_desk.proofs.AnswerLemmas.{replied_as}
-use Rattle.arbac_desk.proofs.CheckLemmas.{no_cert, first_fault}
+use Rattle.arbac_desk.proofs.CheckLemmas.{first_fault}
 use Rattle.arbac_desk.proofs.check.reply_to_cert.Goals as goal
 
 -- the error is the first fault, since it isn't want of memory
@@ -29,7 +29,7 @@ returns-else-is_cert_memory c =
               (first_fault names c.args.bytes.now c.in-Err.error c.in-Err.ensures.first told);
           told = told;
           none = subst (λ (order : Graph). (cert : Certificate) → StandsFor order.names c.args.bytes.now cert → ⊥) c.order.ensures.order
-              (no_cert names c.args.bytes.now c.in-Err.error c.in-Err.ensures.only told);
+              (λ cert stands. told (c.in-Err.ensures.only cert stands));
         },
         refl,
       ),

@@ -5,7 +5,7 @@ use Rattle.desk_texts.specs.Faults.{run_fault}
 use Rattle.desk_texts.specs.Lines.{malformed_line}
 use Rattle.arbac_desk.specs.ReplayAnswers.{IsReplyTo}
 use Rattle.arbac_desk.proofs.AnswerLemmas.{replied_as}
-use Rattle.arbac_desk.proofs.ReplayLemmas.{no_value, known_conds, first_fault}
+use Rattle.arbac_desk.proofs.ReplayLemmas.{known_conds, first_fault}
 use Rattle.arbac_desk.proofs.replay.reply_to.Goals as goal
 
 -- the error is the first fault, since it isn't want of memory
@@ -22,7 +22,7 @@ returns-else-is_memory c =
         record {
           first = first_fault c.args.bytes.now c.in-Err.error c.in-Err.ensures.first told;
           told = told;
-          none = no_value c.args.bytes.now c.in-Err.error c.in-Err.ensures.only told;
+          none = λ value stands. told (c.in-Err.ensures.only value stands);
         },
         refl,
       ),

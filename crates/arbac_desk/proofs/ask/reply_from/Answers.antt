@@ -1,0 +1,13 @@
+use Rattle.arbac_desk.specs.declared.TheConstants.{MOST_QUESTION_BYTES}
+use Rattle.arbac_desk.specs.AskAnswers.{IsReplyToDocument}
+use Rattle.arbac_desk.proofs.FileLemmas.{fetched}
+use Rattle.arbac_desk.proofs.AskLemmas.{ask_replied}
+use Rattle.arbac_desk.proofs.ask.reply_from.Goals as goal
+
+-- the reply to what was fetched is the reply to what the file holds
+pub returns-in-Ok-clause-reply : goal.returns-in-Ok-clause-reply
+returns-in-Ok-clause-reply g c =
+    fetched MOST_QUESTION_BYTES (IsReplyToDocument c.args.limit c.args.name.now) (ask_replied c.args.limit c.args.name.now) c.args.name.now
+    c.in-Ok.bytes.items _ _ c.reply_to.result
+    (record { counted = c.in-Ok.ensures.cause.same (λ e. cc); missed = c.in-Ok.ensures.missed.kept (λ e. cc) })
+    c.in-Ok.ensures.text (rw c.deref.ensures.value at c.reply_to.ensures)
