@@ -3,9 +3,10 @@
 mod questions;
 
 use super::{USAGE, words_of};
-use crate::arbac_desk;
-use desk_ports::{MemShelf, MemSink};
-use questions::QUESTIONS;
+use crate::{arbac_desk, ask_document};
+use back_search::NoGate;
+use desk_ports::{Asked, MemShelf, MemSink};
+use questions::{DEPARTMENT, LEAD, NO_LEAD, QUESTIONS};
 use std::alloc::{AllocError, Global};
 use std::process::Abort;
 use std::test::Fail;
@@ -36,40 +37,77 @@ fn answer_to(
     Ok(answer)
 }
 
-/// The certificate's text and the word for it, behind the status of an answer of `ask`.
+/// The certificate's text and the word for it, behind the status of an answer.
 fn cert_in(answer: &str) -> Option<(&str, &str)> {
     let (_, text) = answer.split_once('\n')?;
-    let (_, rest) = text.split_once('\n')?;
+    let rest = text.strip_prefix("arbac certificate 1\n")?;
     let kind = rest.split(['\n', ' ']).next()?;
     Some((text, kind))
 }
 
-/// The question has its answer, whatever the number of workers, and the checker accepts it.
-fn assert_asked(
+/// The words have their answer on the question and the certificate.
+fn assert_told(
     rt: &impl Abort,
     alloc: Global,
     words: &str,
     question: &str,
+    cert: &str,
     told: &str,
 ) -> Result<(), Fail> {
-    let answer = answer_to(alloc, words, question, "")?;
-    let answer = str::from_utf8(&answer)?;
-    assert_eq!(rt; answer, told, "{words} of {question}");
-    if let Some((cert, kind)) = cert_in(answer) {
-        let judged = answer_to(alloc, "check q c", question, cert)?;
-        let wanted = format!(in alloc; "0\naccepted {kind}\n")?;
-        assert_eq!(rt; judged.as_slice(), wanted.as_bytes(), "{question}");
-    }
+    let answer = answer_to(alloc, words, question, cert)?;
+    assert_eq!(rt; answer.as_slice(), told.as_bytes(), "{words} of {question}");
     Ok(())
+}
+
+/// The checker accepts the certificate.
+fn assert_accepted(
+    rt: &impl Abort,
+    alloc: Global,
+    question: &str,
+    cert: (&str, &str),
+) -> Result<(), Fail> {
+    let (text, kind) = cert;
+    let told = format!(in alloc; "0\naccepted {kind}\n")?;
+    assert_told(rt, alloc, "check q c", question, text, &told)
 }
 
 #[test]
 fn each_question_has_its_answer(rt: HostRuntime) -> Result<(), Fail> {
     let alloc = rt.alloc();
+    let mut question = "";
+    let mut cert = ("", "");
     for row in QUESTIONS.split(";\n") {
-        let (question, rest) = row.split_once("=> ").ok_or("a row has no answer")?;
+        let (document, rest) = row.split_once("=> ").ok_or("a row has no answer")?;
         let (words, told) = rest.split_once('\n').ok_or("an answer has no words")?;
-        assert_asked(&rt, alloc, words, question, told)?;
+        if !document.is_empty() {
+            question = document;
+        }
+        assert_told(&rt, alloc, words, question, cert.0, told)?;
+        if let Some(written) = cert_in(told) {
+            cert = written;
+            assert_accepted(&rt, alloc, question, cert)?;
+        }
+    }
+    Ok(())
+}
+
+/// The department where one of the two roles is given to those of the other.
+fn freer_department(alloc: Global) -> Result<String, Fail> {
+    let (front, rest) = DEPARTMENT
+        .split_once("E1 and not PE1")
+        .ok_or("there is no such condition")?;
+    Ok(format!(in alloc; "{front}E1{rest}")?)
+}
+
+#[test]
+fn a_department_has_its_lead(rt: HostRuntime) -> Result<(), Fail> {
+    let alloc = rt.alloc();
+    assert_told(&rt, alloc, "ask q", DEPARTMENT, "", NO_LEAD)?;
+    let freer = freer_department(alloc)?;
+    assert_told(&rt, alloc, "ask q", &freer, "", LEAD)?;
+    for (question, told) in [(DEPARTMENT, NO_LEAD), (&freer, LEAD)] {
+        let cert = cert_in(told).ok_or("there is no certificate")?;
+        assert_accepted(&rt, alloc, question, cert)?;
     }
     Ok(())
 }
@@ -120,5 +158,21 @@ fn a_sample_has_one_answer(rt: HostRuntime) -> Result<(), Fail> {
     let again = answer_to(alloc, "make 8 --limit=256 --workers 16", "", "")?;
     assert_eq!(&rt; first.as_slice(), again.as_slice());
     assert!(rt; first.starts_with(b"0\nmake 8: roles 17, rules 16, recorded "));
+    Ok(())
+}
+
+#[test]
+fn a_document_is_asked_by_itself(rt: HostRuntime) -> Result<(), Fail> {
+    let alloc = rt.alloc();
+    let (_, text) = LEAD.split_once('\n').ok_or("an answer has no text")?;
+    let freer = freer_department(alloc)?;
+    match ask_document(alloc, freer.as_bytes(), 4_096, 2, &NoGate) {
+        Asked::Answer(answer) => assert_eq!(&rt; answer.as_slice(), text.as_bytes()),
+        _ => assert!(&rt; false, "a question has no answer"),
+    }
+    match ask_document(alloc, b"version = 3", 1, 1, &NoGate) {
+        Asked::Malformed(fault) => assert_eq!(rt; fault.as_slice(), "WrongKind version".as_bytes()),
+        _ => assert!(rt; false, "another version is answered"),
+    }
     Ok(())
 }
