@@ -16,7 +16,7 @@ const RECORDED: &[u8] =
     b"arbac certificate 1\nundecided 1\nneed goal 0\nuser hit c\nnext pre 0 assign 0 0 c 0 new\nuser lack adm\nuser hit adm\nend\n";
 
 /// Texts that stand for certificates, each with the text that is written of what was read.
-const RIGHT: [(&[u8], &[u8]); 8] = [
+const RIGHT: [(&[u8], &[u8]); 10] = [
     (PLAN, PLAN),
     (CLOSED, CLOSED),
     (RECORDED, RECORDED),
@@ -31,6 +31,14 @@ const RIGHT: [(&[u8], &[u8]); 8] = [
     (
         b"arbac certificate 1\nunreachable\nneed\nneed\nend\n",
         b"arbac certificate 1\nunreachable\nneed\nneed\nend\n",
+    ),
+    (
+        b"arbac certificate 1\nunreachable\nneed\nuser hit a hit b\nend\n",
+        b"arbac certificate 1\nunreachable\nneed\nuser hit a hit b\nend\n",
+    ),
+    (
+        b"arbac certificate 1\nunreachable\nneed\nuser hit E,DIR,DSO,PSO1,PSO2\nend\n",
+        b"arbac certificate 1\nunreachable\nneed\nuser hit E,DIR,DSO,PSO1,PSO2\nend\n",
     ),
     // The order of needs, of users and of hits stays, the order of names in a list doesn't.
     (
@@ -292,10 +300,12 @@ const LINES: [(Place, &[u8], Outcome); 50] = [
 
 fn order_of(rt: &impl Abort, alloc: Global) -> Result<Order, Fail> {
     let mut names = Vec::new(alloc);
-    for name in ["adm", "c", "hit", "end"] {
+    for name in [
+        "adm", "c", "hit", "end", "a", "b", "E", "DIR", "DSO", "PSO1", "PSO2",
+    ] {
         names.push(String::from_str(alloc, name)?)?;
     }
-    assert!(rt; names.len() == 4);
+    assert!(rt; names.len() == 11);
     Ok(Order::new(alloc, names, Vec::new(alloc))?)
 }
 

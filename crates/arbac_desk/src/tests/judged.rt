@@ -36,6 +36,19 @@ range = "[a,a]"
 roles = ["adm"]
 "#;
 
+/// Who has `adm` may give `a` to those who have `d`, which nobody is given.
+const OUT_OF_REACH: &str = r#"version = 1
+separate = false
+roles = ["adm", "a", "b", "d"]
+goal = ["b"]
+[[can_assign]]
+admin = "adm"
+condition = "d"
+range = "[a,a]"
+[[profile]]
+roles = ["adm"]
+"#;
+
 /// Behind the first line of a certificate text, one user with `adm`: texts with the status and what is written.
 const OF_ONE: &str = r#"unreachable
 need
@@ -169,6 +182,21 @@ end
 refused StepRefused act 0 NoCondition a rule 0
 "#;
 
+/// The same with the role out of reach: what is met before an act of a third user isn't in the list.
+const OF_OUT_OF_REACH: &str = r#"unreachable
+need
+user hit b
+need
+user hit a
+user hit d
+need
+user hit adm hit d
+user hit d
+end
+ => 21
+refused Open need 1 obligation 2
+"#;
+
 const WORDS: &str = "check q.toml c.txt";
 
 /// The status of these words over the two texts, and behind a line feed what is written.
@@ -216,6 +244,7 @@ fn each_certificate_has_its_answer(rt: HostRuntime) -> Result<(), Fail> {
         (MIXED, "1\n", OF_ONE),
         (MIXED, "2\n", OF_TWO),
         (GIVEN_TWICE, "", OF_GIVEN_TWICE),
+        (OUT_OF_REACH, "", OF_OUT_OF_REACH),
     ] {
         each_judged(&rt, alloc, question, most, rows)?;
     }
