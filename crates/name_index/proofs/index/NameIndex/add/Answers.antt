@@ -19,5 +19,5 @@ invariant_of-self-2 c =
     let same : c.self.inside.names.items ≡ names = search rules in
     let sets = hash_map_updates_text (string_bytes c.in_ok-text.text) old c.insert.new.self _ c.in_ok-insert.ensures.updates in
     let put : (q : List ℕ) → get_by_text c.insert.new.self q ≡ cond (bytes_eq name q) (Some (length names)) (get_by_text old q) =
-        rw (text, place) at sets in
+    rw (text, place) at sets in
     rw items (indexed_more names name old c.insert.new.self (subst (λ xs. IsIndexed xs old) same c.self.invariant) c.requires.new c.requires.room put)

@@ -20,8 +20,7 @@ loop-self-preserved-in-Some c =
     let longer : count < length before.names.items = search rules in
     let room : count ≤ length left = omega (arith, longer, ap length items, length_more left name) in
     let sets = hash_map_updates_text c.as_str.result.now before.places c.remove.new.self None c.remove.ensures.updates in
-    let taken : (q : List ℕ) → get_by_text c.remove.new.self q ≡ cond (bytes_eq name q) None (get_by_text before.places q) = rw text at sets in
-    (
+    let taken : (q : List ℕ) → get_by_text c.remove.new.self q ≡ cond (bytes_eq name q) None (get_by_text before.places q) = rw text at sets in (
       indexed_less left name before.places c.remove.new.self (subst (λ xs. IsIndexed xs before.places) items c.loop-self.invariant.0) taken,
       sym (take-append-le count left (name ∷ []) room) ∙ ap (take count) (sym items) ∙ c.loop-self.invariant.1,
     )

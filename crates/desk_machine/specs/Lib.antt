@@ -1,0 +1,4 @@
+pub mod Sets
+pub mod Machine
+pub mod Imports
+pub mod Repeats
