@@ -66,9 +66,9 @@ fn second_values_are_equal(rt: HostRuntime) -> Result<(), Fail> {
     assert!(rt; copy.seq == 3 && copy.edition == 1 && copy.request.is_same(&row.request));
     let last = copy.as_last(alloc)?.copy(alloc)?;
     assert!(rt; last.request.is_same(&row.request));
-    match last.decision {
+    match &last.decision {
         Decision::Denied(Told::NoAdmin { role, rule }) => {
-            assert!(rt; role.as_str() == "PE1" && rule == 2);
+            assert!(rt; role.as_str() == "PE1" && *rule == 2);
         }
         _ => assert!(rt; false, "another decision"),
     }
