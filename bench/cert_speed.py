@@ -4,7 +4,7 @@
     bench/cert_speed.py [MEBIBYTES]
 
 A text of so many MiB (256 by default) of each kind: a plan, requirements, recorded steps. The program of
-bench/cert_speed fetches it, reads it, and reads and writes it; what each step adds is told in MiB for a processor
+bench/cert_speed.main fetches it, reads it, and reads and writes it; what each step adds is told in MiB for a processor
 second, the best of three. The program is proved and built by `rt ci` in a copy of the crates that it stands on, which
 takes over what it has kept. The status is 1 where a text wasn't read, or a speed is below 60.
 """
@@ -33,7 +33,7 @@ def built(folder):
         shutil.copytree(ROOT / "crates" / name, copy / "crates" / name, ignore=shutil.ignore_patterns("out"))
     source = copy / "crates/cert_speed/src"
     source.mkdir(parents=True)
-    shutil.copy(ROOT / "bench/cert_speed/main.rt", source)
+    shutil.copy(ROOT / "bench/cert_speed.main", source / "main.rt")
     shutil.copy(ROOT / "HANDLES", copy)
     kept = [line for line in lines if line.split(":")[0] in needed]
     (copy / "crates.txt").write_text("\n".join([*kept, f"cert_speed: {' '.join(sorted(needed))}", ""]))
